@@ -1,0 +1,11 @@
+-- Laws of the choice.
+-- Assumes nothing.
+use mathlib.Core.Path.{_≡_, refl}
+use mathlib.Core.Bool.{Bool, true, false}
+use Rattle.laws.specs.Choice.{if_then_else_}
+
+-- what holds of both cases holds of the choice
+pub either {ℓ} : {A : Type 0} (P : A → Type ℓ) (b : Bool) (x y : A) → (b ≡ true → P x) → (b ≡ false → P y) → P (if b then x else y)
+unfolding if_then_else_
+either P true x y f g = f refl
+either P false x y f g = g refl

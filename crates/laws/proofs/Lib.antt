@@ -1,0 +1,6 @@
+pub mod Choice
+pub mod Walk
+pub mod Parts
+pub mod Buffers
+pub mod Pieces
+pub mod Arrays

@@ -1,0 +1,22 @@
+-- Laws of what stands at a position of a list, said as `drop at s ≡ o ++ r`: o stands there, and r behind it.
+-- Assumes nothing.
+use Prim.Native.Nat.{ℕ, _+_, _<_}
+use mathlib.Core.Path.{_≡_, sym, ap, _∙_}
+use mathlib.Core.List.{List, _++_}
+use lib.ListN.{length, getD, drop, length-append, length-drop}
+use lib.Seq.{getD-drop, drop-drop, drop-append-seam}
+use native.Mathlib.Nat.{add-zero}
+use native.Mathlib.Omega.{arith}
+
+module _ {A : Type 0} (s : List A) (at : ℕ) (o r : List A) (h : drop at s ≡ o ++ r) where
+  pub stands-at : (k : ℕ) (d : A) → getD s (at + k) d ≡ getD (o ++ r) k d
+  stands-at k d = sym (getD-drop at s k d) ∙ ap (λ (l : List A). getD l k d) h
+
+  pub stands-first : (d : A) → getD s at d ≡ getD (o ++ r) 0 d
+  stands-first d = ap (λ (k : ℕ). getD s k d) (sym (add-zero at)) ∙ stands-at 0 d
+
+  pub stands-length : 0 < length o → length s ≡ at + length o + length r
+  stands-length p = omega (arith, length-drop at s, ap length h, length-append o r)
+
+  pub stands-behind : (n : ℕ) → n ≡ at + length o → drop n s ≡ r
+  stands-behind n e = ap (λ (k : ℕ). drop k s) e ∙ sym (drop-drop (length o) at s) ∙ ap (drop (length o)) h ∙ drop-append-seam o r

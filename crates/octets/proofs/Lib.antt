@@ -1,0 +1,4 @@
+pub mod FieldLaws
+pub mod AddressLaws
+pub mod ElementLaws
+pub mod TextLaws

@@ -1,0 +1,39 @@
+// The rule of the nine octets of time (cause 14).
+ghost use mathlib.Core.Path.{_≡_};
+ghost use Rattle.octets.specs.Times.{inRange, goodTime};
+use crate::fields::pair;
+
+// Is a field in its range, or all ones: unknown?
+fn in_range(least: u16, most: u16, ones: u16, x: u16) -> bool
+    ensures { λ r. ⌜ r ≡ inRange least most ones x ⌝ }
+{
+    if x == ones {
+        return true;
+    }
+    if x < least {
+        return false;
+    }
+    x <= most
+}
+
+// Is each field of a time in its range, or unknown?
+pub fn good_time(t: [u8; 9]) -> bool
+    ensures { λ r. ⌜ r ≡ goodTime t ⌝ }
+{
+    if !in_range(0, 999, 65535, pair(t[0], t[1])) {
+        return false;
+    }
+    if !in_range(0, 59, 255, t[2] as u16) {
+        return false;
+    }
+    if !in_range(0, 59, 255, t[3] as u16) {
+        return false;
+    }
+    if !in_range(0, 23, 255, t[4] as u16) {
+        return false;
+    }
+    if !in_range(1, 31, 255, t[5] as u16) {
+        return false;
+    }
+    in_range(1, 12, 255, t[6] as u16)
+}
