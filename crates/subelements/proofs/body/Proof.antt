@@ -1,0 +1,41 @@
+-- `subelements::body` meets its contract.
+-- Assumes nothing.
+use Rattle.subelements.specs.Subelements.{bodyAt}
+use borrow.Author.Needs.{needs}
+use Rattle.subelements.proofs.body.Statement.{statement}
+use Rattle.subelements.proofs.body.Tie as tie
+
+body-octet-requires : tie.Need-body-octet-requires
+body-octet-requires c κs = search needs
+
+body-octet-requires-2 : tie.Need-body-octet-requires-2
+body-octet-requires-2 c κs = search needs
+
+body-octet-requires-3 : tie.Need-body-octet-requires-3
+body-octet-requires-3 c κs = search needs
+
+body-octet-requires-4 : tie.Need-body-octet-requires-4
+body-octet-requires-4 c κs = search needs
+
+body-octet-requires-5 : tie.Need-body-octet-requires-5
+body-octet-requires-5 c κs = search needs
+
+body-octet-requires-6 : tie.Need-body-octet-requires-6
+body-octet-requires-6 c κs = search needs
+
+returns : tie.Need-returns
+unfolding bodyAt
+returns c =
+    rw (c .before .before .before .before .before .body-octet .ensures, c .before .before .before .before .body-octet2 .ensures, c .before .before .before .body-octet3 .ensures, c .before .before .body-octet4 .ensures, c .before .body-octet5 .ensures, c .body-octet6 .ensures)
+
+pub body-spec : {M : Type 1} → statement M
+body-spec =
+    tie.close
+    (tie.spec
+    body-octet-requires
+    body-octet-requires-2
+    body-octet-requires-3
+    body-octet-requires-4
+    body-octet-requires-5
+    body-octet-requires-6
+    returns)

@@ -1,0 +1,160 @@
+// The subelements of one element (document 01, "Frames and elements", and causes 7 and 8 of its
+// table): the table of lengths, and the one walker that reads it.
+use octets::Refusal;
+use octets::causes;
+use octets::octet;
+use octets::piece_end;
+use octets::size;
+ghost use mathlib.Core.Path.{_≡_};
+ghost use Prim.Native.Nat.{_+_, _≤_, _<_, _^_};
+ghost use lib.ListN.{getD};
+ghost use Rattle.octets.specs.Elements.{pieceEnd};
+ghost use Rattle.subelements.specs.Subelements.{lengthOf, bodyOctet, bodyAt, walked, refusedWalk, wholeStep, step as Subelements·step, walk as Subelements·walk};
+
+// The subelement of one ID of the table: absent (its octets 0), or present with its body (0 past
+// its length). In a request element of event type 0 it is a condition.
+pub struct Condition {
+    pub present: bool,
+    pub octets: [u8; 6],
+}
+
+// How far a walk has come: refused, or the next position, the number of subelements walked, and the
+// condition of each ID of the table.
+pub struct Subelements {
+    pub refusal: Refusal,
+    pub at: usize,
+    pub count: usize,
+    pub filter: [Condition; 5],
+}
+
+// The body lengths of the transition subelements 0 to 4.
+const LENGTHS: [usize; 5] = [6, 6, 2, 1, 3];
+
+fn length_of(id: usize) -> usize
+    requires { ⌜ id < 5 ⌝ }
+    ensures { λ r. ⌜ r ≡ lengthOf id ⌝ }
+{
+    LENGTHS[id]
+}
+
+// Octet k of a body of n octets, 0 past its end.
+fn body_octet(s: &[u8], at: usize, n: usize, k: usize) -> u8
+    requires { ⌜ at + n < 2 ^ 64 ⌝ }
+    ensures { λ r. ⌜ r ≡ bodyOctet (now (s .entry)) at n k ⌝ }
+{
+    if k < n { octet(s, at + k) } else { 0 }
+}
+
+fn body(s: &[u8], at: usize, n: usize) -> [u8; 6]
+    requires { ⌜ at + n < 2 ^ 64 ⌝ }
+    ensures { λ r. ⌜ r ≡ bodyAt (now (s .entry)) at n ⌝ }
+{
+    [
+        body_octet(s, at, n, 0),
+        body_octet(s, at, n, 1),
+        body_octet(s, at, n, 2),
+        body_octet(s, at, n, 3),
+        body_octet(s, at, n, 4),
+        body_octet(s, at, n, 5),
+    ]
+}
+
+// A walk with no subelement yet.
+fn walk_of(refusal: Refusal, at: usize) -> Subelements
+    ensures { λ r. ⌜ r ≡ walked refusal at ⌝ }
+{
+    Subelements {
+        refusal,
+        at,
+        count: 0,
+        filter: [Condition {
+            present: false,
+            octets: [0; 6],
+        }; 5],
+    }
+}
+
+fn refused(number: u8, place: usize) -> Subelements
+    ensures { λ r. ⌜ r ≡ refusedWalk number place ⌝ }
+{
+    walk_of(Refusal::new(number, place), 0)
+}
+
+// Behind the whole subelement at w.at, which ends at next. IDs below known are held against the
+// table.
+fn whole_step(s: &[u8], known: usize, w: Subelements, next: usize) -> Subelements
+    requires { ⌜ (known ≤ 5) × (w .count ≤ w .at) × (w .at + 2 + getD (now s) (w .at + 1) 0 ≡ next) ⌝ }
+    ensures { λ r. ⌜ r ≡ wholeStep (now (s .entry)) known w next ⌝ }
+{
+    let at = w.at;
+    let id = size(s, at);
+    let count = w.count + 1;
+    let mut filter = w.filter;
+    if known <= id {
+        return Subelements {
+            refusal: Refusal::none(),
+            at: next,
+            count,
+            filter,
+        };
+    }
+    let n = size(s, at + 1);
+    if n != length_of(id) {
+        return refused(causes::SUBELEMENT, at);
+    }
+    let old = filter[id];
+    if old.present {
+        return refused(causes::REPEATED_SUBELEMENT, at);
+    }
+    filter[id] = Condition {
+        present: true,
+        octets: body(s, at + 2, n),
+    };
+    Subelements {
+        refusal: Refusal::none(),
+        at: next,
+        count,
+        filter,
+    }
+}
+
+// Behind the subelement at w.at, in an element that ends at end.
+fn step(s: &[u8], known: usize, end: usize, w: Subelements) -> Subelements
+    requires { ⌜ (known ≤ 5) × (w .count ≤ w .at) ⌝ }
+    ensures { λ r. ⌜ r ≡ Subelements·step (now (s .entry)) known end w ⌝ }
+{
+    let at = w.at;
+    let next = piece_end(s, at, end);
+    if next == 0 {
+        return refused(causes::SUBELEMENT, at);
+    }
+    whole_step(s, known, w, next)
+}
+
+fn walk(s: &[u8], known: usize, from: usize, end: usize) -> Subelements
+    requires { ⌜ known ≤ 5 ⌝ }
+    ensures { λ r. ⌜ r ≡ Subelements·walk (now (s .entry)) known from end ⌝ }
+{
+    let mut w = walk_of(Refusal::none(), from);
+    while w.at < end {
+        w = step(s, known, end, w);
+        if w.refusal.number != 0 {
+            return w;
+        }
+    }
+    w
+}
+
+// The subelements of an event type 0 request, from a position to the element's end.
+pub fn walk_conditions(s: &[u8], from: usize, end: usize) -> Subelements
+    ensures { λ r. ⌜ r ≡ Subelements·walk (now (s .entry)) 5 from end ⌝ }
+{
+    walk(s, 5, from, end)
+}
+
+// The subelements of a diagnostic, which are walked for their edges only.
+pub fn walk_edges(s: &[u8], from: usize, end: usize) -> Subelements
+    ensures { λ r. ⌜ r ≡ Subelements·walk (now (s .entry)) 0 from end ⌝ }
+{
+    walk(s, 0, from, end)
+}
