@@ -1,5 +1,7 @@
 // A station (document 01: a gate): its log, its requesters (document 01: consoles), and what is
 // left of their requests.
+mod identity;
+
 use events::Log;
 use octets::Refusal;
 use requests::Element;
@@ -12,11 +14,11 @@ pub struct Diagnostic {
     pub timeout: u16,
 }
 
-// An event request, where open. Its elements left are those from first to count; the front one gave
+// An event request, where outstanding. Its elements left are those from first to count; the front one gave
 // so many events, and the search for its next one goes on at start. The log's first mark places
 // were logged before acceptance. Places outside first to count are free.
 pub struct EventRequest {
-    pub open: bool,
+    pub outstanding: bool,
     pub dialog: u8,
     pub given: u8,
     pub mark: usize,
@@ -26,10 +28,10 @@ pub struct EventRequest {
     pub elements: [Element; 8],
 }
 
-// A diagnostic request, where open, and the reading of its acceptance. Its elements left are those
+// A diagnostic request, where outstanding, and the reading of its acceptance. Its elements left are those
 // from first to count; the other places are free.
 pub struct DiagnosticRequest {
-    pub open: bool,
+    pub outstanding: bool,
     pub dialog: u8,
     pub accepted: Milliseconds,
     pub first: usize,
