@@ -8,17 +8,15 @@ use mathlib.Core.Option.{Option, none, some, Option·some-injective}
 use borrow.Author.Tests.{not-false}
 use Rattle.laws.specs.Choice.{if_then_else_}
 use Rattle.laws.proofs.Choice.{either}
-use Rattle.octets.specs.Times.{goodTime}
-use Rattle.octets.specs.Addresses.{isGroup}
 use Rattle.events.specs.declared.Entry.{Entry}
-use Rattle.station.specs.Model.{Address, Requester, Station, Call, clock, logging, frame, report, roam, change, Answer, accepted, nothing, written, refused, Result}
+use Rattle.station.specs.Model.{Address, Requester, Station, Call, clock, logging, frame, report, roam, change, accepted, Result}
 use Rattle.station.specs.Identity.{goodIdentity}
 use Rattle.station.specs.Requesters.{badList, find}
 use Rattle.octets.specs.Refusals.{requesterList, identity}
 use Rattle.station.specs.Stations.{result, refusedFor, newStation, nobody, setup, tick, logEntry, logCall, Served, withRequester, serveFound, serveListed, frameCall, reportCall, renameWith, rename, act, readingOf, step}
-use Rattle.station.specs.Runs.{run, sender, Reply, reply, toSender}
+use Rattle.station.specs.Runs.{run, sender, reply, toSender}
 use Rattle.station.specs.Independence.{quiet, Origin, from, longer, isAccepted, since, freshReply, answers, freshAnswers, Independent, origin, IndependentCall}
-use Rattle.station.proofs.Seen.{Seen, seen, stepSeen, stepReply, seen-step, quiet-step, seen-reply}
+use Rattle.station.proofs.Seen.{seen, stepSeen, stepReply, seen-step, quiet-step, seen-reply}
 
 -- ---- no call changes the identity
 

@@ -2,12 +2,10 @@
 -- another sender's call no more than a bare clock reading, and the reply to a sender follows from it.
 -- Assumes nothing.
 use Prim.Native.Nat.{ℕ}
-use mathlib.Core.Path.{_≡_, refl, sym, _∙_, ap, ap₂}
+use mathlib.Core.Path.{_≡_, refl, sym, _∙_, ap}
 use mathlib.Core.Bool.{Bool, true, false, not}
 use mathlib.Core.List.{List, [], _∷_, map}
 use mathlib.Core.Option.{Option, none, some, Option·map, Option·some-injective}
-use lib.Dec.{ltb, eqb}
-use lib.ListN.{length}
 use Rattle.laws.specs.Choice.{if_then_else_}
 use Rattle.laws.proofs.Choice.{either}
 use Rattle.octets.specs.declared.numbers.Kind.{Kind}
@@ -22,7 +20,7 @@ use Rattle.events.specs.declared.Transition.{Transition}
 use Rattle.station.specs.Model.{Address, logCapacity, Requester, Station, Call, clock, logging, frame, report, roam, change, accepted, Result}
 use Rattle.station.specs.Parts.{readRequest, pushed, entryOf}
 use Rattle.station.specs.Requesters.{badList, newRequester, find, put}
-use Rattle.station.specs.Stations.{result, refusedFor, newStation, tickRequester, tick, logRequester, logEntry, logCall, Served, served, withRequester, serveFound, serveListed, takeKind, takeRequest, frameCall, giveEvents, giveDiagnostics, ifOutstanding, octetsOf, giveKind, giveReport, reportCall, renameWith, rename, act, readingOf, step}
+use Rattle.station.specs.Stations.{refusedFor, tickRequester, tick, logRequester, logEntry, logCall, Served, served, withRequester, serveFound, serveListed, takeKind, takeRequest, frameCall, giveEvents, giveDiagnostics, ifOutstanding, octetsOf, giveKind, giveReport, reportCall, renameWith, rename, act, readingOf, step}
 use Rattle.station.specs.Runs.{sender, Reply, reply, toSender}
 use Rattle.station.specs.Independence.{quietFor, quiet}
 

@@ -8,3 +8,4 @@ pub mod Events
 pub mod Stations
 pub mod Runs
 pub mod Independence
+pub mod Views
