@@ -3,6 +3,7 @@
 mod identity;
 
 use events::Log;
+pub use identity::good_identity;
 use octets::Refusal;
 use requests::Element;
 use units::Milliseconds;

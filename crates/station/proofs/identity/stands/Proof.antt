@@ -1,0 +1,21 @@
+-- `station::identity::stands` meets its contract.
+-- Assumes nothing.
+use borrow.Author.Tests.{lt-ltb, le-ltb}
+use Rattle.station.specs.Identity.{stands}
+use borrow.Author.Needs.{needs}
+use Rattle.station.proofs.identity.stands.Statement.{statement}
+use Rattle.station.proofs.identity.stands.Tie as tie
+
+returns : tie.Need-returns
+unfolding stands
+returns c = rw (le-ltb _ _ (c .if1 .taken))
+
+octet-requires : tie.Need-octet-requires
+octet-requires c κs = search needs
+
+returns-2 : tie.Need-returns-2
+unfolding stands
+returns-2 c = rw (lt-ltb _ _ (c .before .before .if1 .left), c .before .octet .ensures)
+
+pub stands-spec : {M : Type 1} → statement M
+stands-spec = tie.close (tie.spec returns octet-requires returns-2)
