@@ -46,7 +46,7 @@ dropLate reading (some r) = unlessOver (r .dialog) (r .accepted) (onTime reading
 
 -- ---- an accepted frame
 
-unfoldable pub isCancel : Treatment → Bool
+abbrev pub isCancel : Treatment → Bool
 isCancel Report = false
 isCancel Incapable = false
 isCancel Cancel = true

@@ -12,6 +12,8 @@ use Rattle.events.specs.declared.Log.{Log}
 use Rattle.station.specs.Model.{EventRequest, DiagnosticRequest, Requester, Station, Answer, accepted, nothing, written, refused}
 use Rattle.station.specs.declared.EventRequest.{EventRequest as Code·EventRequest}
 use Rattle.station.specs.declared.DiagnosticRequest.{DiagnosticRequest as Code·DiagnosticRequest}
+use Rattle.station.specs.declared.Diagnostic.{Diagnostic}
+use Rattle.station.specs.declared.diagnostics.Diagnostics.{Diagnostics}
 use Rattle.station.specs.declared.Requester.{Requester as Code·Requester}
 use Rattle.station.specs.declared.Station.{Station as Code·Station}
 use Rattle.station.specs.declared.Answer.{Answer as Code·Answer}
@@ -20,6 +22,10 @@ use Rattle.station.specs.declared.Answer.the-variants.{Accepted, Nothing
 -- the elements left of an array: those from first to count
 abbrev pub left : {A : Type 0} → ℕ → ℕ → List A → List A
 left first count xs = drop first (take count xs)
+
+-- the elements that a list of them has
+abbrev pub listed : Diagnostics → List Diagnostic
+listed k = take (k .count) (k .elements)
 
 unfoldable pub viewEvents : Code·EventRequest → Option EventRequest
 viewEvents r =

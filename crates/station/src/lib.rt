@@ -1,10 +1,13 @@
 // A station (document 01: a gate): its log, its requesters (document 01: consoles), and what is
 // left of their requests.
+mod diagnostics;
 mod identity;
+mod requesters;
 
 use events::Log;
 pub use identity::good_identity;
 use octets::Refusal;
+pub use requesters::bad_list;
 use requests::Element;
 use units::Milliseconds;
 

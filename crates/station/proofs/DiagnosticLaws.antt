@@ -1,0 +1,79 @@
+-- Laws of diagnostic requests: of the late drop, of the elements left, and of an accepted frame.
+-- Assumes nothing.
+use Prim.Native.Nat.{ℕ, _+_, _≤_, _<_}
+use mathlib.Core.Path.{_≡_, refl, sym, _∙_}
+use mathlib.Core.Bool.{Bool, true, false, _&&_}
+use mathlib.Core.List.{List, [], _∷_, _++_, append-assoc, append-nil}
+use mathlib.Core.Option.{none, some}
+use lib.Dec.{eqb, ltb}
+use lib.ListN.{length, getD, drop, drop-of-length-le}
+use lib.Seq.{drop-cons}
+use native.Mathlib.Numerals.{add-one}
+use native.Mathlib.Omega.{arith}
+use borrow.Author.Tests.{lt-ltb}
+use Rattle.laws.specs.Choice.{if_then_else_}
+use Rattle.requests.specs.declared.Element.{Element}
+use Rattle.station.specs.declared.Diagnostic.{Diagnostic}
+use Rattle.station.proofs.TestLaws.{some-here, some-later, some-none}
+use Rattle.station.specs.Model.{DiagnosticRequest}
+use Rattle.station.specs.Diagnostics.{diagnosticTreatment, isCancel, holdsCancel, isLate, onTime, unlessOver, replaceDiagnostics}
+
+-- a request by the number of its elements
+pub unless-over : (dialog accepted : ℕ) (xs : List Diagnostic) (n : ℕ) → length xs ≡ n
+    → (if ltb 0 n then some (record { dialog = dialog; accepted = accepted; elements = xs }) else none) ≡ unlessOver dialog accepted xs
+unfolding unlessOver if_then_else_
+unless-over dialog accepted [] n e = rw (← e)
+unless-over dialog accepted (x ∷ xs) n e = rw (lt-ltb 0 n (omega arith))
+
+module _ (reading accepted : ℕ) where
+  -- the late drop of one element after the other
+  pub on-time-cons : (x : Diagnostic) (xs : List Diagnostic) → onTime reading accepted (x ∷ []) ++ onTime reading accepted xs ≡ onTime reading accepted (x ∷ xs)
+  unfolding onTime if_then_else_
+  on-time-cons x xs = go (isLate reading accepted x)
+    where
+      go : (b : Bool) → (if b then [] else x ∷ []) ++ onTime reading accepted xs ≡ (if b then onTime reading accepted xs else x ∷ onTime reading accepted xs)
+      go true = refl
+      go false = refl
+
+  -- k is kept of the places before i of a list l, and x stands at i
+  pub on-time-next : (l : List Diagnostic) (i : ℕ) (d x : Diagnostic) (k k′ whole : List Diagnostic) → i < length l → getD l i d ≡ x
+      → k ++ onTime reading accepted (drop i l) ≡ whole → k′ ≡ k ++ onTime reading accepted (x ∷ []) → k′ ++ onTime reading accepted (drop (i + 1) l) ≡ whole
+  on-time-next l i d x k k′ whole h q e f =
+      rw (f, append-assoc k (onTime reading accepted (x ∷ [])) (onTime reading accepted (drop (i + 1) l)), on-time-cons x (drop (i + 1) l))
+      (rw (drop-cons l i d h, ← add-one i, q) at e)
+
+  pub on-time-end : (l : List Diagnostic) (i : ℕ) (k whole : List Diagnostic) → length l ≤ i → k ++ onTime reading accepted (drop i l) ≡ whole → k ≡ whole
+  unfolding onTime
+  on-time-end l i k whole h e = sym (append-nil k) ∙ (rw (drop-of-length-le l {i = i} h) at e)
+
+-- the default that the logic reads past an array of diagnostics
+abbrev pub pastDiagnostics : Diagnostic
+pastDiagnostics = record { token = 0; ty = 0; timeout = 0 }
+
+abbrev pub pastElements : Element
+pastElements = record { token = 0; ty = 0; limit = 0; subs = 0; timeout = 0; filter = [] }
+
+module _ (l : List Diagnostic) where
+  pub cancel-here : (i : ℕ) (x : Diagnostic) → i < length l → getD l i pastDiagnostics ≡ x → isCancel (diagnosticTreatment (x .ty)) ≡ true → true ≡ holdsCancel (drop i l)
+  unfolding holdsCancel
+  cancel-here i x h q e = some-here holdsCancel (λ y ys. isCancel (diagnosticTreatment (y .ty))) refl (λ y ys. refl) l i pastDiagnostics h (rw q e)
+
+  pub cancel-later : (i : ℕ) (x : Diagnostic) → i < length l → getD l i pastDiagnostics ≡ x → isCancel (diagnosticTreatment (x .ty)) ≡ false → holdsCancel (drop (i + 1) l) ≡ holdsCancel (drop i l)
+  unfolding holdsCancel
+  cancel-later i x h q e = some-later holdsCancel (λ y ys. isCancel (diagnosticTreatment (y .ty))) refl (λ y ys. refl) l i pastDiagnostics h (rw q e)
+
+  pub cancel-none : (i : ℕ) → length l ≤ i → false ≡ holdsCancel (drop i l)
+  unfolding holdsCancel
+  cancel-none i h = some-none holdsCancel (λ y ys. isCancel (diagnosticTreatment (y .ty))) refl (λ y ys. refl) l i h
+
+-- an accepted frame, where a request r is outstanding by the test b
+module _ (reading dialog : ℕ) (xs : List Diagnostic) (r : DiagnosticRequest) where
+  pub replace-repeated : (b : Bool) → (b && eqb dialog (r .dialog)) ≡ true → (if b then some r else none) ≡ replaceDiagnostics reading dialog xs (if b then some r else none)
+  unfolding replaceDiagnostics if_then_else_
+  replace-repeated true e = rw e
+  replace-repeated false e = cc
+
+  pub replace-other : (b : Bool) → (b && eqb dialog (r .dialog)) ≡ false → unlessOver dialog reading xs ≡ replaceDiagnostics reading dialog xs (if b then some r else none)
+  unfolding replaceDiagnostics if_then_else_
+  replace-other true e = rw e
+  replace-other false e = refl
