@@ -2,10 +2,10 @@
 -- Assumes nothing.
 use Prim.Native.Nat.{ℕ, _+_, _≤_, _<_}
 use mathlib.Core.Path.{_≡_, refl, sym, _∙_}
-use mathlib.Core.Bool.{Bool, true, false, _&&_}
+use mathlib.Core.Bool.{Bool, true, false}
 use mathlib.Core.List.{List, [], _∷_, _++_, append-assoc, append-nil}
 use mathlib.Core.Option.{none, some}
-use lib.Dec.{eqb, ltb}
+use lib.Dec.{ltb}
 use lib.ListN.{length, getD, drop, drop-of-length-le}
 use lib.Seq.{drop-cons}
 use native.Mathlib.Numerals.{add-one}
@@ -15,8 +15,7 @@ use Rattle.laws.specs.Choice.{if_then_else_}
 use Rattle.requests.specs.declared.Element.{Element}
 use Rattle.station.specs.declared.Diagnostic.{Diagnostic}
 use Rattle.station.proofs.TestLaws.{some-here, some-later, some-none}
-use Rattle.station.specs.Model.{DiagnosticRequest}
-use Rattle.station.specs.Diagnostics.{diagnosticTreatment, isCancel, holdsCancel, isLate, onTime, unlessOver, replaceDiagnostics}
+use Rattle.station.specs.Diagnostics.{diagnosticTreatment, isCancel, holdsCancel, isLate, onTime, unlessOver}
 
 -- a request by the number of its elements
 pub unless-over : (dialog accepted : ℕ) (xs : List Diagnostic) (n : ℕ) → length xs ≡ n
@@ -65,15 +64,3 @@ module _ (l : List Diagnostic) where
   pub cancel-none : (i : ℕ) → length l ≤ i → false ≡ holdsCancel (drop i l)
   unfolding holdsCancel
   cancel-none i h = some-none holdsCancel (λ y ys. isCancel (diagnosticTreatment (y .ty))) refl (λ y ys. refl) l i h
-
--- an accepted frame, where a request r is outstanding by the test b
-module _ (reading dialog : ℕ) (xs : List Diagnostic) (r : DiagnosticRequest) where
-  pub replace-repeated : (b : Bool) → (b && eqb dialog (r .dialog)) ≡ true → (if b then some r else none) ≡ replaceDiagnostics reading dialog xs (if b then some r else none)
-  unfolding replaceDiagnostics if_then_else_
-  replace-repeated true e = rw e
-  replace-repeated false e = cc
-
-  pub replace-other : (b : Bool) → (b && eqb dialog (r .dialog)) ≡ false → unlessOver dialog reading xs ≡ replaceDiagnostics reading dialog xs (if b then some r else none)
-  unfolding replaceDiagnostics if_then_else_
-  replace-other true e = rw e
-  replace-other false e = refl

@@ -1,3 +1,4 @@
+pub mod General
 pub mod Seen
 pub mod Independence
 pub mod Cases
@@ -5,3 +6,4 @@ pub mod IdentityLaws
 pub mod TestLaws
 pub mod DiagnosticLaws
 pub mod PartLaws
+pub mod DialogLaws

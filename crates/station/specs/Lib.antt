@@ -2,6 +2,7 @@ pub mod Model
 pub mod Parts
 pub mod Identity
 pub mod Requesters
+pub mod Dialogs
 pub mod Fill
 pub mod Diagnostics
 pub mod Events

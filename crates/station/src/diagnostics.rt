@@ -2,15 +2,14 @@
 use crate::Diagnostic;
 use crate::DiagnosticRequest;
 use crate::Treatment;
+use crate::dialogs::is_repeated;
 use requests::Element;
 use requests::Request;
 use units::Milliseconds;
 ghost use mathlib.Core.Path.{_≡_};
-ghost use mathlib.Core.Bool.{_&&_};
 ghost use mathlib.Core.List.{[], _∷_, _++_};
 ghost use Prim.Native.Nat.{_+_, _≤_, _<_, min};
 ghost use mathlib.Core.Option.{none};
-ghost use lib.Dec.{eqb};
 ghost use Rattle.station.specs.Diagnostics.{diagnosticTreatment, isLate, onTime, unlessOver, dropLate, isCancel, holdsCancel, diagnosticOf, diagnosticsOf, takeDiagnostics};
 ghost use Rattle.station.specs.Views.{left, listed, viewDiagnostics};
 
@@ -166,16 +165,6 @@ fn holds_cancel(k: Diagnostics) -> bool
     false
 }
 
-// Is a request of this dialog token outstanding?
-fn is_repeated(d: DiagnosticRequest, dialog: u8) -> bool
-    ensures { λ r. ⌜ r ≡ (d .outstanding && eqb dialog (d .dialog)) ⌝ }
-{
-    if !d.outstanding {
-        return false;
-    }
-    dialog == d.dialog
-}
-
 fn closed(d: DiagnosticRequest) -> DiagnosticRequest
     ensures { λ r. ⌜ viewDiagnostics r ≡ none ⌝ }
 {
@@ -203,7 +192,7 @@ pub fn take_diagnostics(
     if holds_cancel(k) {
         return closed(d);
     }
-    if is_repeated(d, q.dialog) {
+    if is_repeated(d.outstanding, d.dialog, q.dialog) {
         return d;
     }
     request_of(q.dialog, reading, k)

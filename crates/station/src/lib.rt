@@ -1,6 +1,8 @@
 // A station (document 01: a gate): its log, its requesters (document 01: consoles), and what is
 // left of their requests.
 mod diagnostics;
+mod dialogs;
+mod event_requests;
 mod identity;
 mod requesters;
 

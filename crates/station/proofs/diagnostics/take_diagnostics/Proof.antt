@@ -4,7 +4,7 @@ use mathlib.Core.Path.{sym, _∙_}
 use Rattle.laws.specs.Choice.{if_then_else_}
 use Rattle.station.specs.Views.{viewDiagnostics}
 use Rattle.station.specs.Diagnostics.{takeDiagnostics}
-use Rattle.station.proofs.DiagnosticLaws.{replace-repeated, replace-other}
+use Rattle.station.proofs.DialogLaws.{replace-repeated, replace-other}
 use borrow.Author.Needs.{needs}
 use Rattle.station.proofs.diagnostics.take_diagnostics.Statement.{statement}
 use Rattle.station.proofs.diagnostics.take_diagnostics.Tie as tie
@@ -31,7 +31,7 @@ unfolding takeDiagnostics viewDiagnostics if_then_else_
 returns-2 c =
     let a = c .before .before .before .before .before .args in
     rw (← c .before .before .before .before .diagnostics-of .ensures .0, ← c .before .before .before .holds-cancel .ensures, c .before .before .if1 .left)
-    (replace-repeated (a .reading .0) (a .q .dialog) _ _ (a .d .outstanding) (sym (c .before .is-repeated .ensures) ∙ c .if2 .taken))
+    (replace-repeated _ _ _ (a .d .outstanding) (sym (c .before .is-repeated .ensures) ∙ c .if2 .taken))
 
 request-of-requires : tie.Need-request-of-requires
 request-of-requires c κs = c .before .before .before .before .diagnostics-of .ensures .1
@@ -41,7 +41,7 @@ unfolding takeDiagnostics viewDiagnostics if_then_else_
 returns-3 c =
     let a = c .before .before .before .before .before .before .args in
     rw (← c .before .before .before .before .before .diagnostics-of .ensures .0, ← c .before .before .before .before .holds-cancel .ensures, c .before .before .before .if1 .left)
-    (c .request-of .ensures ∙ replace-other (a .reading .0) (a .q .dialog) _ _ (a .d .outstanding) (sym (c .before .before .is-repeated .ensures) ∙ c .before .if2 .left))
+    (c .request-of .ensures ∙ replace-other _ _ _ (a .d .outstanding) (sym (c .before .before .is-repeated .ensures) ∙ c .before .if2 .left))
 
 pub take-diagnostics-spec : {M : Type 1} → statement M
 take-diagnostics-spec =
