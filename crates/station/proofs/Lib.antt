@@ -7,3 +7,4 @@ pub mod TestLaws
 pub mod DiagnosticLaws
 pub mod PartLaws
 pub mod DialogLaws
+pub mod RequesterLaws

@@ -1,5 +1,6 @@
 -- Requesters (document 01: consoles): the list that names them, and the one that an address finds.
 -- Assumes nothing.
+use Prim.Native.Nat.{ℕ, suc}
 use mathlib.Core.Bool.{Bool, true, false, _||_}
 use mathlib.Core.List.{List, [], _∷_}
 use mathlib.Core.Option.{Option, none, some}
@@ -37,6 +38,11 @@ newRequester a = record { address = a; events = none; diagnostics = none }
 unfoldable pub find : Address → List Requester → Option Requester
 find a [] = none
 find a (r ∷ rs) = if same a (r .address) then some r else find a rs
+
+-- where it stands; the list's length where no requester has the address
+unfoldable pub place : Address → List Requester → ℕ
+place a [] = 0
+place a (r ∷ rs) = if same a (r .address) then 0 else suc (place a rs)
 
 -- x in the place of the requester that an address finds
 unfoldable pub put : Address → Requester → List Requester → List Requester

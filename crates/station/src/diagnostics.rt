@@ -2,13 +2,14 @@
 use crate::Diagnostic;
 use crate::DiagnosticRequest;
 use crate::Treatment;
+use crate::counts::within;
 use crate::dialogs::is_repeated;
 use requests::Element;
 use requests::Request;
 use units::Milliseconds;
 ghost use mathlib.Core.Path.{_≡_};
 ghost use mathlib.Core.List.{[], _∷_, _++_};
-ghost use Prim.Native.Nat.{_+_, _≤_, _<_, min};
+ghost use Prim.Native.Nat.{_+_, _≤_, _<_};
 ghost use mathlib.Core.Option.{none};
 ghost use Rattle.station.specs.Diagnostics.{diagnosticTreatment, isLate, onTime, unlessOver, dropLate, isCancel, holdsCancel, diagnosticOf, diagnosticsOf, takeDiagnostics};
 ghost use Rattle.station.specs.Views.{left, listed, viewDiagnostics};
@@ -71,20 +72,13 @@ fn request_of(dialog: u8, accepted: Milliseconds, k: Diagnostics) -> DiagnosticR
     }
 }
 
-// A count of places, of which there are eight.
-fn within(n: usize) -> usize
-    ensures { λ r. ⌜ r ≡ min n 8 ⌝ }
-{
-    if n < 8 { n } else { 8 }
-}
-
 // Those on time of the elements left.
 fn kept(d: DiagnosticRequest, reading: Milliseconds) -> Diagnostics
     ensures { λ r. ⌜ (listed r ≡ onTime (reading .0) (d .accepted .0) (left (d .first) (d .count) (d .elements))) × (r .count ≤ 8) ⌝ }
 {
     let accepted = d.accepted;
     let elements = d.elements;
-    let end = within(d.count);
+    let end = within(d.count, 8);
     let mut i = d.first;
     let mut k = Diagnostics { count: 0, elements };
     while i < end {
@@ -120,7 +114,7 @@ fn diagnostics_of(q: Request) -> Diagnostics
     ensures { λ r. ⌜ (listed r ≡ diagnosticsOf q) × (r .count ≤ 8) ⌝ }
 {
     let asked = q.elements;
-    let end = within(q.count);
+    let end = within(q.count, 8);
     let mut elements = [Diagnostic {
         token: 0,
         ty: 0,
@@ -153,7 +147,7 @@ fn holds_cancel(k: Diagnostics) -> bool
     ensures { λ r. ⌜ r ≡ holdsCancel (listed k) ⌝ }
 {
     let elements = k.elements;
-    let end = within(k.count);
+    let end = within(k.count, 8);
     let mut i: usize = 0;
     while i < end {
         let x = elements[i];

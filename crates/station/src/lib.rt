@@ -1,5 +1,6 @@
 // A station (document 01: a gate): its log, its requesters (document 01: consoles), and what is
 // left of their requests.
+mod counts;
 mod diagnostics;
 mod dialogs;
 mod event_requests;
