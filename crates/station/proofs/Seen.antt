@@ -20,7 +20,7 @@ use Rattle.events.specs.declared.Transition.{Transition}
 use Rattle.station.specs.Model.{Address, logCapacity, Requester, Station, Call, clock, logging, frame, report, roam, change, accepted, Result}
 use Rattle.station.specs.Parts.{readRequest, pushed, entryOf}
 use Rattle.station.specs.Requesters.{badList, newRequester, find, put}
-use Rattle.station.specs.Stations.{refusedFor, tickRequester, tick, logRequester, logEntry, logCall, Served, served, withRequester, serveFound, serveListed, takeKind, takeRequest, frameCall, giveEvents, giveDiagnostics, ifOutstanding, octetsOf, giveKind, giveReport, reportCall, renameWith, rename, act, readingOf, step}
+use Rattle.station.specs.Stations.{refusedFor, tickRequester, tick, lowerRequester, logRequester, logEntry, logCall, Served, served, withRequester, serveFound, serveListed, takeKind, takeRequest, frameCall, giveEvents, giveDiagnostics, ifOutstanding, octetsOf, giveKind, giveReport, reportCall, renameWith, rename, act, readingOf, step}
 use Rattle.station.specs.Runs.{sender, Reply, reply, toSender}
 use Rattle.station.specs.Independence.{quietFor, quiet}
 use Rattle.station.proofs.General.{apply-if, same-sym}
@@ -120,7 +120,7 @@ unfolding tickRequester
 tick-keeps reading r = refl
 
 log-keeps : (log : List Entry) → Keeps (logRequester log)
-unfolding logRequester
+unfolding logRequester lowerRequester
 log-keeps log r = either (λ (x : Requester). x .address ≡ r .address) _ _ _ (λ _. refl) (λ _. refl)
 
 kind-keeps : (reading : ℕ) (log : List Entry) (q : Request) (r : Requester) (k : Kind) → takeKind reading log q r k .address ≡ r .address

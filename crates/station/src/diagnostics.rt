@@ -159,18 +159,21 @@ fn holds_cancel(k: Diagnostics) -> bool
     false
 }
 
-fn closed(d: DiagnosticRequest) -> DiagnosticRequest
+// No request is outstanding.
+pub fn no_diagnostics() -> DiagnosticRequest
     ensures { λ r. ⌜ viewDiagnostics r ≡ none ⌝ }
 {
-    let accepted = d.accepted;
-    let elements = d.elements;
     DiagnosticRequest {
         outstanding: false,
-        dialog: d.dialog,
-        accepted,
-        first: d.first,
-        count: d.count,
-        elements,
+        dialog: 0,
+        accepted: Milliseconds(0),
+        first: 0,
+        count: 0,
+        elements: [Diagnostic {
+            token: 0,
+            ty: 0,
+            timeout: 0,
+        }; 8],
     }
 }
 
@@ -184,7 +187,7 @@ pub fn take_diagnostics(
 {
     let k = diagnostics_of(q);
     if holds_cancel(k) {
-        return closed(d);
+        return no_diagnostics();
     }
     if is_repeated(d.outstanding, d.dialog, q.dialog) {
         return d;

@@ -15,13 +15,13 @@ diagnostics-of-requires c κs = search needs
 holds-cancel-requires : tie.Need-holds-cancel-requires
 holds-cancel-requires c κs = search needs
 
-closed-requires : tie.Need-closed-requires
-closed-requires c κs = search needs
+no-diagnostics-requires : tie.Need-no-diagnostics-requires
+no-diagnostics-requires c κs = search needs
 
 returns : tie.Need-returns
 unfolding takeDiagnostics if_then_else_
 returns c =
-    rw (← c .before .before .before .diagnostics-of .ensures .0, ← c .before .before .holds-cancel .ensures, c .before .if1 .taken) (c .closed .ensures)
+    rw (← c .before .before .before .diagnostics-of .ensures .0, ← c .before .before .holds-cancel .ensures, c .before .if1 .taken) (c .no-diagnostics .ensures)
 
 is-repeated-requires : tie.Need-is-repeated-requires
 is-repeated-requires c κs = search needs
@@ -49,7 +49,7 @@ take-diagnostics-spec =
     (tie.spec
     diagnostics-of-requires
     holds-cancel-requires
-    closed-requires
+    no-diagnostics-requires
     returns
     is-repeated-requires
     returns-2

@@ -1,0 +1,14 @@
+-- `station::diagnostics::no_diagnostics` meets its contract.
+-- Assumes nothing.
+use mathlib.Core.Path.{refl}
+use Rattle.laws.specs.Choice.{if_then_else_}
+use Rattle.station.specs.Views.{viewDiagnostics}
+use Rattle.station.proofs.diagnostics.no_diagnostics.Statement.{statement}
+use Rattle.station.proofs.diagnostics.no_diagnostics.Tie as tie
+
+returns : tie.Need-returns
+unfolding viewDiagnostics if_then_else_
+returns c = refl
+
+pub no-diagnostics-spec : {M : Type 1} → statement M
+no-diagnostics-spec = tie.close (tie.spec returns)

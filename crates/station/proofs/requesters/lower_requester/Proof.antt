@@ -1,0 +1,17 @@
+-- `station::requesters::lower_requester` meets its contract.
+-- Assumes nothing.
+use Rattle.station.specs.Views.{viewRequester}
+use Rattle.station.specs.Stations.{lowerRequester}
+use borrow.Author.Needs.{needs}
+use Rattle.station.proofs.requesters.lower_requester.Statement.{statement}
+use Rattle.station.proofs.requesters.lower_requester.Tie as tie
+
+lower-requires : tie.Need-lower-requires
+lower-requires c κs = search needs
+
+returns : tie.Need-returns
+unfolding viewRequester lowerRequester
+returns c = rw (c .lower .ensures)
+
+pub lower-requester-spec : {M : Type 1} → statement M
+lower-requester-spec = tie.close (tie.spec lower-requires returns)
