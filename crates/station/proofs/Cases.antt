@@ -11,7 +11,7 @@ use Rattle.octets.specs.declared.numbers.Kind.the-variants.{Event}
 use Rattle.octets.specs.Addresses.{same}
 use Rattle.octets.specs.Elements.{pieceEnd}
 use Rattle.station.specs.Model.{Address, DiagnosticRequest, frame, report, accepted, nothing, written}
-use Rattle.station.specs.Parts.{readRequest, meets, nextPlace, reportElement}
+use Rattle.station.specs.Parts.{readRequest, meets, nextPlace, nextMatch, reportElement}
 use Rattle.station.specs.Identity.{stands, passRow, goodFrom, goodIdentity}
 use Rattle.station.specs.Requesters.{holds, repeated, hasGroup, badList, newRequester, find, put}
 use Rattle.station.specs.Dialogs.{replace}
@@ -88,11 +88,11 @@ program = 10 ∷ 0 ∷ 7 ∷ 78 ∷ 6 ∷ 5 ∷ 0 ∷ 4 ∷ 3 ∷ 1 ∷ 1 ∷ []
 
 reported : reply (run (setup five (console ∷ []) .station) (frame 10 console console program ∷ [])) (report 20 console Event (replicate 260 255))
     ≡ record { answer = written 8; buffer = 10 ∷ 1 ∷ 7 ∷ 79 ∷ 3 ∷ 5 ∷ 0 ∷ 0 ∷ replicate 252 255 }
-unfolding five console program reply run step act readingOf tick tickRequester setup goodIdentity goodFrom passRow stands pieceEnd badList repeated holds hasGroup newRequester same find put frameCall serveListed serveFound withRequester takeRequest takeKind readRequest takeEvents replace openEvents reportCall giveReport giveKind ifOutstanding giveEvents nextFrame fill fillWith nextEvent nextFrom eventTreatment treatFront nextEventPlace nextPlace meets reportFront without unlessDone reportElement dropLate if_then_else_
+unfolding five console program reply run step act readingOf tick tickRequester setup goodIdentity goodFrom passRow stands pieceEnd badList repeated holds hasGroup newRequester same find put frameCall serveListed serveFound withRequester takeRequest takeKind readRequest takeEvents replace openEvents reportCall giveReport giveKind ifOutstanding giveEvents nextFrame fill fillWith nextEvent nextFrom eventTreatment treatFront nextEventPlace nextMatch nextPlace meets reportFront without unlessDone reportElement dropLate if_then_else_
 reported = refl
 
 -- and then nothing is left of it
 over : reply (run (setup five (console ∷ []) .station) (frame 10 console console program ∷ report 20 console Event (replicate 260 255) ∷ [])) (report 30 console Event (replicate 260 255))
     ≡ record { answer = nothing; buffer = replicate 260 255 }
-unfolding five console program reply run step act readingOf tick tickRequester setup goodIdentity goodFrom passRow stands pieceEnd badList repeated holds hasGroup newRequester same find put frameCall serveListed serveFound withRequester takeRequest takeKind readRequest takeEvents replace openEvents reportCall giveReport giveKind ifOutstanding giveEvents nextFrame fill fillWith nextEvent nextFrom eventTreatment treatFront nextEventPlace nextPlace meets reportFront without unlessDone reportElement dropLate if_then_else_
+unfolding five console program reply run step act readingOf tick tickRequester setup goodIdentity goodFrom passRow stands pieceEnd badList repeated holds hasGroup newRequester same find put frameCall serveListed serveFound withRequester takeRequest takeKind readRequest takeEvents replace openEvents reportCall giveReport giveKind ifOutstanding giveEvents nextFrame fill fillWith nextEvent nextFrom eventTreatment treatFront nextEventPlace nextMatch nextPlace meets reportFront without unlessDone reportElement dropLate if_then_else_
 over = refl

@@ -12,7 +12,6 @@ use native.Mathlib.Numerals.{add-one}
 use native.Mathlib.Omega.{arith}
 use borrow.Author.Tests.{lt-ltb}
 use Rattle.laws.specs.Choice.{if_then_else_}
-use Rattle.requests.specs.declared.Element.{Element}
 use Rattle.station.specs.declared.Diagnostic.{Diagnostic}
 use Rattle.station.proofs.TestLaws.{some-here, some-later, some-none}
 use Rattle.station.specs.Diagnostics.{diagnosticTreatment, isCancel, holdsCancel, isLate, onTime, unlessOver}
@@ -48,9 +47,6 @@ module _ (reading accepted : ℕ) where
 -- the default that the logic reads past an array of diagnostics
 abbrev pub pastDiagnostics : Diagnostic
 pastDiagnostics = record { token = 0; ty = 0; timeout = 0 }
-
-abbrev pub pastElements : Element
-pastElements = record { token = 0; ty = 0; limit = 0; subs = 0; timeout = 0; filter = [] }
 
 module _ (l : List Diagnostic) where
   pub cancel-here : (i : ℕ) (x : Diagnostic) → i < length l → getD l i pastDiagnostics ≡ x → isCancel (diagnosticTreatment (x .ty)) ≡ true → true ≡ holdsCancel (drop i l)

@@ -8,3 +8,4 @@ pub mod DiagnosticLaws
 pub mod PartLaws
 pub mod DialogLaws
 pub mod RequesterLaws
+pub mod StationLaws

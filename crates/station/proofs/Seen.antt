@@ -17,8 +17,8 @@ use Rattle.octets.proofs.AddressLaws.{same-true}
 use Rattle.requests.specs.declared.Request.{Request}
 use Rattle.events.specs.declared.Entry.{Entry}
 use Rattle.events.specs.declared.Transition.{Transition}
-use Rattle.station.specs.Model.{Address, logCapacity, Requester, Station, Call, clock, logging, frame, report, roam, change, accepted, Result}
-use Rattle.station.specs.Parts.{readRequest, pushed, entryOf}
+use Rattle.station.specs.Model.{Address, Requester, Station, Call, clock, logging, frame, report, roam, change, accepted, Result}
+use Rattle.station.specs.Parts.{readRequest, capacity, pushed, entryOf}
 use Rattle.station.specs.Requesters.{badList, newRequester, find, put}
 use Rattle.station.specs.Stations.{refusedFor, tickRequester, tick, lowerRequester, logRequester, logEntry, logCall, Served, served, withRequester, serveFound, serveListed, takeKind, takeRequest, frameCall, giveEvents, giveDiagnostics, ifOutstanding, octetsOf, giveKind, giveReport, reportCall, renameWith, rename, act, readingOf, step}
 use Rattle.station.specs.Runs.{sender, Reply, reply, toSender}
@@ -89,7 +89,7 @@ tickSeen reading v = onSlot (tickRequester reading) v
 logSeen : ℕ → Transition → Seen → Seen
 logSeen reading e v =
     if not (goodTime (e .time)) then v
-    else record { identity = v .identity; log = pushed logCapacity (v .log) (entryOf reading e); slot = Option·map (logRequester (v .log)) (v .slot) }
+    else record { identity = v .identity; log = pushed capacity (v .log) (entryOf reading e); slot = Option·map (logRequester (v .log)) (v .slot) }
 
 servedSeen : Address → Address → (Requester → Served) → Seen → Seen
 servedSeen s a serve v = if same a s then onSlot (λ r. serve r .requester) v else v
@@ -163,7 +163,7 @@ seen-log : (s : Address) (reading : ℕ) (e : Transition) (g : Station) → seen
 unfolding seen logCall logEntry logSeen
 seen-log s reading e g =
     apply-if (λ (x : Result). seen s (x .station)) (not (goodTime (e .time))) _ _
-    ∙ ap (λ (o : Option Requester). if not (goodTime (e .time)) then seen s g else record { identity = g .identity; log = pushed logCapacity (g .log) (entryOf reading e); slot = o })
+    ∙ ap (λ (o : Option Requester). if not (goodTime (e .time)) then seen s g else record { identity = g .identity; log = pushed capacity (g .log) (entryOf reading e); slot = o })
     (find-map (logRequester (g .log)) (log-keeps (g .log)) s (g .requesters))
 
 module _ (s a : Address) (serve : Requester → Served) (b : List ℕ) (g : Station) (keeps : ServeKeeps serve) where

@@ -1,11 +1,11 @@
 -- PLACEHOLDERS of definitions that other crates are to give under the same names and types; no proof unfolds them.
 -- Assumes nothing.
-use Prim.Native.Nat.{ℕ, _+_}
+use Prim.Native.Nat.{ℕ, min}
 use mathlib.Core.Bool.{Bool, true}
 use mathlib.Core.List.{List, [], _∷_, _++_}
 use mathlib.Core.Option.{Option, none, some}
 use lib.Dec.{ltb}
-use lib.ListN.{length, getD, drop, replicate}
+use lib.ListN.{length, getD, take, drop, replicate}
 use Rattle.laws.specs.Choice.{if_then_else_}
 use Rattle.octets.specs.declared.numbers.Kind.{Kind}
 use Rattle.octets.specs.declared.numbers.Kind.the-variants.{Event}
@@ -14,8 +14,10 @@ use Rattle.octets.specs.Refusals.{noRefusal}
 use Rattle.octets.specs.Elements.{framed}
 use Rattle.subelements.specs.declared.Condition.{Condition}
 use Rattle.subelements.specs.Subelements.{noFilter}
+use Rattle.requests.specs.declared.Element.{Element}
 use Rattle.requests.specs.declared.Request.{Request}
 use Rattle.events.specs.declared.Entry.{Entry}
+use Rattle.events.specs.declared.Log.{Log}
 use Rattle.events.specs.declared.Transition.{Transition}
 
 -- requests.specs.Requests
@@ -29,15 +31,31 @@ readRequest o =
       elements = record { token = getD o 5 0; ty = getD o 6 0; limit = getD o 7 0; subs = 0; timeout = 0; filter = noFilter } ∷ [];
     }
 
--- events.specs.Conditions
-unfoldable pub meets : List Entry → ℕ → List Condition → ℕ → Bool
-meets log ty filter place = true
+-- requests.specs.Elements
+abbrev pub pastElements : Element
+pastElements = record { token = 0; ty = 0; limit = 0; subs = 0; timeout = 0; filter = [] }
 
 -- events.specs.Choice
 unfoldable pub nextPlace : (ℕ → Bool) → ℕ → ℕ → Option ℕ
 nextPlace test from before = if ltb from before then some from else none
 
+-- events.specs.Conditions
+unfoldable pub meets : List Entry → ℕ → List Condition → ℕ → Bool
+meets log ty filter place = true
+
+unfoldable pub nextMatch : List Entry → ℕ → List Condition → ℕ → ℕ → Option ℕ
+nextMatch log ty filter from before = nextPlace (meets log ty filter) from (min before (length log))
+
 -- events.specs.Log
+abbrev pub capacity : ℕ
+capacity = 64
+
+unfoldable pub logged : Log → List Entry
+logged l = take (l .count) (l .entries)
+
+abbrev pub pastLog : Entry
+pastLog = record { ty = 0; stamp = record { 0 = 0 }; time = []; body = [] }
+
 unfoldable pub pushed : ℕ → List Entry → Entry → List Entry
 pushed capacity log e = (if ltb (length log) capacity then log else drop 1 log) ++ (e ∷ [])
 

@@ -2,20 +2,20 @@
 -- and the free places are not looked at.
 -- Assumes nothing.
 use Prim.Native.Nat.{ℕ}
-use mathlib.Core.List.{List, map}
+use mathlib.Core.List.{List, [], map}
 use mathlib.Core.Option.{Option, none, some}
 use lib.Dec.{eqb}
 use lib.ListN.{take, drop}
 use Rattle.laws.specs.Choice.{if_then_else_}
-use Rattle.events.specs.declared.Entry.{Entry}
-use Rattle.events.specs.declared.Log.{Log}
-use Rattle.station.specs.Model.{EventRequest, DiagnosticRequest, Requester, Station, Answer, accepted, nothing, written, refused}
+use Rattle.station.specs.Model.{EventRequest, DiagnosticRequest, Requester, Station, Answer, accepted, nothing, written, refused, Result}
+use Rattle.station.specs.Parts.{logged}
 use Rattle.station.specs.declared.EventRequest.{EventRequest as Code·EventRequest}
 use Rattle.station.specs.declared.DiagnosticRequest.{DiagnosticRequest as Code·DiagnosticRequest}
 use Rattle.station.specs.declared.Diagnostic.{Diagnostic}
 use Rattle.station.specs.declared.diagnostics.Diagnostics.{Diagnostics}
 use Rattle.station.specs.declared.Requester.{Requester as Code·Requester}
 use Rattle.station.specs.declared.Station.{Station as Code·Station}
+use Rattle.station.specs.declared.Outcome.{Outcome}
 use Rattle.station.specs.declared.Answer.{Answer as Code·Answer}
 use Rattle.station.specs.declared.Answer.the-variants.{Accepted, Nothing, Length, Refused}
 
@@ -40,9 +40,6 @@ viewDiagnostics r =
 unfoldable pub viewRequester : Code·Requester → Requester
 viewRequester r = record { address = r .address; events = viewEvents (r .events); diagnostics = viewDiagnostics (r .diagnostics) }
 
-unfoldable pub viewLog : Log → List Entry
-viewLog l = take (l .count) (l .entries)
-
 -- a length of 0: no identity
 unfoldable pub viewIdentity : ℕ → List ℕ → Option (List ℕ)
 viewIdentity n octets = if eqb n 0 then none else some (take n octets)
@@ -51,7 +48,7 @@ unfoldable pub view : Code·Station → Station
 view g =
     record {
       identity = viewIdentity (g .length) (g .identity);
-      log = viewLog (g .log);
+      log = logged (g .log);
       requesters = map viewRequester (take (g .count) (g .requesters));
     }
 
@@ -61,3 +58,7 @@ viewAnswer Accepted = accepted
 viewAnswer Nothing = nothing
 viewAnswer (Length n) = written n
 viewAnswer (Refused r) = refused r
+
+-- the result of a call without a buffer
+unfoldable pub viewOutcome : Outcome → Result
+viewOutcome o = record { station = view (o .station); answer = viewAnswer (o .answer); buffer = [] }

@@ -6,6 +6,7 @@ mod dialogs;
 mod event_requests;
 mod identity;
 mod requesters;
+mod stations;
 
 use events::Log;
 pub use identity::good_identity;
@@ -78,4 +79,10 @@ pub enum Answer {
     // A frame of so many octets stands in the buffer.
     Length(usize),
     Refused(Refusal),
+}
+
+// What a call without a buffer gives: the station after it, and the answer.
+pub struct Outcome {
+    pub station: Station,
+    pub answer: Answer,
 }

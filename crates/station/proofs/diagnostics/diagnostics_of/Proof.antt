@@ -8,7 +8,7 @@ use lib.ListN.{length, take, length-set}
 use Rattle.laws.proofs.Arrays.{length-mapped}
 use Rattle.station.specs.Diagnostics.{diagnosticOf, diagnosticsOf}
 use Rattle.station.proofs.PartLaws.{fill-mapped, mapped-within}
-use Rattle.station.proofs.DiagnosticLaws.{pastElements}
+use Rattle.station.specs.Parts.{pastElements}
 use borrow.Author.Needs.{needs}
 use Rattle.station.proofs.diagnostics.diagnostics_of.Statement.{statement}
 use Rattle.station.proofs.diagnostics.diagnostics_of.Tie as tie

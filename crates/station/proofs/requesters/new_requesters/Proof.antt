@@ -1,12 +1,12 @@
 -- `station::requesters::new_requesters` meets its contract. The invariant: the first i are those of the list.
 -- Assumes nothing.
 use Prim.Native.Nat.{_+_, _-_, _≤_}
-use mathlib.Core.Path.{_≡_, refl, sym, ap, _∙_}
+use mathlib.Core.Path.{_≡_, refl, ap, _∙_}
 use mathlib.Core.List.{[], map}
 use native.Mathlib.Omega.{arith}
 use lib.ListN.{length, take, length-map, length-set}
 use lib.Seq.{take-length}
-use Rattle.laws.proofs.Arrays.{length-mapped, map-take, map-set}
+use Rattle.laws.proofs.Arrays.{map-take, map-set}
 use Rattle.station.specs.Requesters.{newRequester}
 use Rattle.station.specs.Views.{viewRequester}
 use Rattle.station.proofs.PartLaws.{fill-mapped}
