@@ -1,11 +1,4 @@
-pub mod General
 pub mod Seen
 pub mod Independence
-pub mod Cases
-pub mod IdentityLaws
-pub mod TestLaws
-pub mod DiagnosticLaws
-pub mod PartLaws
-pub mod DialogLaws
-pub mod RequesterLaws
 pub mod StationLaws
+pub mod Cases

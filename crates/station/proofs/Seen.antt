@@ -17,13 +17,15 @@ use Rattle.octets.proofs.AddressLaws.{same-true}
 use Rattle.requests.specs.declared.Request.{Request}
 use Rattle.events.specs.declared.Entry.{Entry}
 use Rattle.events.specs.declared.Transition.{Transition}
-use Rattle.station.specs.Model.{Address, Requester, Station, Call, clock, logging, frame, report, roam, change, accepted, Result}
-use Rattle.station.specs.Parts.{readRequest, capacity, pushed, entryOf}
-use Rattle.station.specs.Requesters.{badList, newRequester, find, put}
-use Rattle.station.specs.Stations.{refusedFor, tickRequester, tick, lowerRequester, logRequester, logEntry, logCall, Served, served, withRequester, serveFound, serveListed, takeKind, takeRequest, frameCall, giveEvents, giveDiagnostics, ifOutstanding, octetsOf, giveKind, giveReport, reportCall, renameWith, rename, act, readingOf, step}
+use Rattle.requesters.specs.Model.{Address, Requester}
+use Rattle.station.specs.Model.{Station, Call, clock, logging, frame, report, roam, change, accepted, Result}
+use Rattle.requesters.specs.Parts.{readRequest, capacity, pushed, entryOf}
+use Rattle.requesters.specs.Requesters.{badList, newRequester, find, put}
+use Rattle.requesters.specs.Requesters.{tickRequester, lowerRequester}
+use Rattle.station.specs.Stations.{refusedFor, tick, logRequester, logEntry, logCall, Served, served, withRequester, serveFound, serveListed, takeKind, takeRequest, frameCall, giveEvents, giveDiagnostics, ifOutstanding, octetsOf, giveKind, giveReport, reportCall, renameWith, rename, act, readingOf, step}
 use Rattle.station.specs.Runs.{sender, Reply, reply, toSender}
 use Rattle.station.specs.Independence.{quietFor, quiet}
-use Rattle.station.proofs.General.{apply-if, same-sym}
+use Rattle.requesters.proofs.General.{apply-if, same-sym}
 
 -- ---- the requester that an address finds
 

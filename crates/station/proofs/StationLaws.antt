@@ -16,13 +16,15 @@ use Rattle.laws.proofs.Arrays.{map-take}
 use Rattle.octets.specs.Refusals.{requesterList, identity}
 use Rattle.events.specs.declared.Entry.{Entry}
 use Rattle.events.specs.declared.Log.{Log}
-use Rattle.station.specs.declared.Requester.{Requester as Code·Requester}
-use Rattle.station.specs.Model.{Address, Requester, Station, accepted}
-use Rattle.station.specs.Identity.{stands, passRow, goodFrom, goodIdentity}
-use Rattle.station.specs.Requesters.{badList, newRequester}
-use Rattle.station.specs.Views.{viewRequester, viewIdentity, view}
+use Rattle.requesters.specs.declared.Requester.{Requester as Code·Requester}
+use Rattle.requesters.specs.Model.{Address, Requester}
+use Rattle.station.specs.Model.{Station, accepted}
+use Rattle.identities.specs.Identity.{stands, passRow, goodFrom, goodIdentity}
+use Rattle.requesters.specs.Requesters.{badList, newRequester}
+use Rattle.requesters.specs.Views.{viewRequester}
+use Rattle.station.specs.Views.{viewIdentity, view}
 use Rattle.station.specs.Stations.{result, refusedFor, nobody, newStation, setup, renameWith, rename}
-use Rattle.station.specs.Parts.{logged}
+use Rattle.requesters.specs.Parts.{logged}
 
 -- what is done to every requester of an array is done to those of the station
 pub views-within : (f : Requester → Requester) (n : ℕ) (xs ys : List Code·Requester) → map viewRequester ys ≡ map f (map viewRequester xs)

@@ -8,7 +8,8 @@ use mathlib.Core.List.{List, [], _∷_, _++_, map}
 use mathlib.Core.Option.{Option, none, some}
 use Rattle.laws.specs.Choice.{if_then_else_}
 use Rattle.octets.specs.Addresses.{same}
-use Rattle.station.specs.Model.{Address, Station, Call, clock, logging, frame, report, roam, change, Answer, accepted, nothing, written, refused}
+use Rattle.requesters.specs.Model.{Address}
+use Rattle.station.specs.Model.{Station, Call, clock, logging, frame, report, roam, change, Answer, accepted, nothing, written, refused}
 use Rattle.station.specs.Stations.{setup, readingOf, step}
 use Rattle.station.specs.Runs.{run, sender, Reply, reply, toSender}
 

@@ -1,11 +1,4 @@
 pub mod Model
-pub mod Parts
-pub mod Identity
-pub mod Requesters
-pub mod Dialogs
-pub mod Fill
-pub mod Diagnostics
-pub mod Events
 pub mod Stations
 pub mod Runs
 pub mod Independence

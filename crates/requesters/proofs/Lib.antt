@@ -1,0 +1,7 @@
+pub mod General
+pub mod TestLaws
+pub mod PartLaws
+pub mod DialogLaws
+pub mod DiagnosticLaws
+pub mod RequesterLaws
+pub mod Cases

@@ -1,0 +1,62 @@
+-- Requesters (document 01: consoles): the list that names them, and the one that an address finds.
+-- Assumes nothing.
+use Prim.Native.Nat.{ℕ, suc}
+use mathlib.Core.Bool.{Bool, true, false, _||_}
+use mathlib.Core.List.{List, [], _∷_}
+use mathlib.Core.Option.{Option, none, some, Option·map}
+use lib.Dec.{eqb, ltb}
+use lib.ListN.{length}
+use Rattle.laws.specs.Choice.{if_then_else_}
+use Rattle.octets.specs.Addresses.{same, isGroup}
+use Rattle.requesters.specs.Diagnostics.{dropLate}
+use Rattle.requesters.specs.Events.{lowered}
+use Rattle.requesters.specs.Model.{Address, Requester, requesterCapacity}
+
+unfoldable pub holds : Address → List Address → Bool
+holds a [] = false
+holds a (b ∷ bs) = same a b || holds a bs
+
+unfoldable pub repeated : List Address → Bool
+repeated [] = false
+repeated (a ∷ l) = holds a l || repeated l
+
+unfoldable pub hasGroup : List Address → Bool
+hasGroup [] = false
+hasGroup (a ∷ l) = isGroup a || hasGroup l
+
+-- "Console list empty, over 4, repeated, or with a group address" (15)
+unfoldable pub badList : List Address → Bool
+badList l =
+    if eqb (length l) 0 then true
+    else if ltb requesterCapacity (length l) then true
+    else if repeated l then true
+    else hasGroup l
+
+-- a requester just named: it has no request
+unfoldable pub newRequester : Address → Requester
+newRequester a = record { address = a; events = none; diagnostics = none }
+
+-- the requester of an address: the first match
+unfoldable pub find : Address → List Requester → Option Requester
+find a [] = none
+find a (r ∷ rs) = if same a (r .address) then some r else find a rs
+
+-- where it stands; the list's length where no requester has the address
+unfoldable pub place : Address → List Requester → ℕ
+place a [] = 0
+place a (r ∷ rs) = if same a (r .address) then 0 else suc (place a rs)
+
+-- x in the place of the requester that an address finds
+unfoldable pub put : Address → Requester → List Requester → List Requester
+put a x [] = []
+put a x (r ∷ rs) = if same a (r .address) then x ∷ rs else r ∷ put a x rs
+
+-- ---- what is done to each of them
+
+-- the late drop
+unfoldable pub tickRequester : ℕ → Requester → Requester
+tickRequester reading r = record { address = r .address; events = r .events; diagnostics = dropLate reading (r .diagnostics) }
+
+-- the log's oldest entry is dropped
+unfoldable pub lowerRequester : Requester → Requester
+lowerRequester r = record { address = r .address; events = Option·map lowered (r .events); diagnostics = r .diagnostics }

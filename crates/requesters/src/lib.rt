@@ -1,0 +1,66 @@
+// Requesters (document 01: consoles): what is left of their requests, the list that names them, and
+// what calls make of them.
+mod counts;
+mod diagnostics;
+mod dialogs;
+mod event_requests;
+mod lists;
+
+pub use diagnostics::diagnostic_treatment;
+pub use diagnostics::take_diagnostics;
+pub use event_requests::event_treatment;
+pub use event_requests::take_events;
+pub use lists::bad_list;
+pub use lists::find;
+pub use lists::lower_requesters;
+pub use lists::new_requesters;
+pub use lists::tick_requesters;
+use requests::Element;
+use units::Milliseconds;
+
+// A diagnostic element that is not answered yet: its token, its type (ty), its timeout in seconds.
+pub struct Diagnostic {
+    pub token: u8,
+    pub ty: u8,
+    pub timeout: u16,
+}
+
+// An event request, where outstanding. Its elements left are those from first to count; the front one gave
+// so many events, and the search for its next one goes on at start. The log's first mark places
+// were logged before acceptance. Places outside first to count are free.
+pub struct EventRequest {
+    pub outstanding: bool,
+    pub dialog: u8,
+    pub given: u8,
+    pub mark: usize,
+    pub start: usize,
+    pub first: usize,
+    pub count: usize,
+    pub elements: [Element; 8],
+}
+
+// A diagnostic request, where outstanding, and the reading of its acceptance. Its elements left are those
+// from first to count; the other places are free.
+pub struct DiagnosticRequest {
+    pub outstanding: bool,
+    pub dialog: u8,
+    pub accepted: Milliseconds,
+    pub first: usize,
+    pub count: usize,
+    pub elements: [Diagnostic; 8],
+}
+
+// A requester, with at most one request of each kind.
+pub struct Requester {
+    pub address: [u8; 6],
+    pub events: EventRequest,
+    pub diagnostics: DiagnosticRequest,
+}
+
+// What a type number decides: report events, answer Incapable, cancel, or give the identity.
+pub enum Treatment {
+    Report,
+    Incapable,
+    Cancel,
+    Identity,
+}
