@@ -1,0 +1,11 @@
+pub mod Model
+pub mod Parts
+pub mod Identity
+pub mod Requesters
+pub mod Fill
+pub mod Diagnostics
+pub mod Events
+pub mod Stations
+pub mod Runs
+pub mod Independence
+pub mod Views
