@@ -7,7 +7,7 @@ use lib.Dec.{eqb, ltb}
 use lib.ListN.{length}
 use Rattle.laws.specs.Choice.{if_then_else_}
 use Rattle.octets.specs.Addresses.{same, isGroup}
-use Rattle.station.specs.Model.{Address, Requester, requesterCapacity}
+use Rattle.model.specs.Model.{Address, Requester, requesterCapacity}
 
 unfoldable pub holds : Address → List Address → Bool
 holds a [] = false

@@ -17,12 +17,13 @@ use Rattle.octets.proofs.AddressLaws.{same-refl, same-true}
 use Rattle.requests.specs.declared.Request.{Request}
 use Rattle.events.specs.declared.Entry.{Entry}
 use Rattle.events.specs.declared.Transition.{Transition}
-use Rattle.station.specs.Model.{Address, logCapacity, Requester, Station, Call, clock, logging, frame, report, roam, change, accepted, Result}
-use Rattle.station.specs.Parts.{readRequest, pushed, entryOf}
-use Rattle.station.specs.Requesters.{badList, newRequester, find, put}
-use Rattle.station.specs.Stations.{refusedFor, tickRequester, tick, logRequester, logEntry, logCall, Served, served, withRequester, serveFound, serveListed, takeKind, takeRequest, frameCall, giveEvents, giveDiagnostics, ifOutstanding, octetsOf, giveKind, giveReport, reportCall, renameWith, rename, act, readingOf, step}
-use Rattle.station.specs.Runs.{sender, Reply, reply, toSender}
-use Rattle.station.specs.Independence.{quietFor, quiet}
+use Rattle.model.specs.Model.{Address, logCapacity, Requester, Station, Call, clock, logging, frame, report, roam, change, accepted, Result}
+use Rattle.requests.specs.Requests.{readRequest}
+use Rattle.events.specs.Log.{pushed, entryOf}
+use Rattle.model.specs.Requesters.{badList, newRequester, find, put}
+use Rattle.model.specs.Stations.{refusedFor, tickRequester, tick, logRequester, logEntry, logCall, Served, served, withRequester, serveFound, serveListed, takeKind, takeRequest, frameCall, giveEvents, giveDiagnostics, ifOutstanding, octetsOf, giveKind, giveReport, reportCall, renameWith, rename, act, readingOf, step}
+use Rattle.model.specs.Runs.{sender, Reply, reply, toSender}
+use Rattle.model.specs.Independence.{quietFor, quiet}
 
 -- ---- general
 

@@ -8,9 +8,9 @@ use mathlib.Core.List.{List, [], _∷_, _++_, map}
 use mathlib.Core.Option.{Option, none, some}
 use Rattle.laws.specs.Choice.{if_then_else_}
 use Rattle.octets.specs.Addresses.{same}
-use Rattle.station.specs.Model.{Address, Station, Call, clock, logging, frame, report, roam, change, Answer, accepted, nothing, written, refused}
-use Rattle.station.specs.Stations.{setup, readingOf, step}
-use Rattle.station.specs.Runs.{run, sender, Reply, reply, toSender}
+use Rattle.model.specs.Model.{Address, Station, Call, clock, logging, frame, report, roam, change, Answer, accepted, nothing, written, refused}
+use Rattle.model.specs.Stations.{setup, readingOf, step}
+use Rattle.model.specs.Runs.{run, sender, Reply, reply, toSender}
 
 -- "each frame or report call of another sender replaced by a bare clock reading at the same counter value"; "calls not replaced keep
 -- their arguments, refused ones too"

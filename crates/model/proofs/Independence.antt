@@ -9,14 +9,14 @@ use borrow.Author.Tests.{not-false}
 use Rattle.laws.specs.Choice.{if_then_else_}
 use Rattle.laws.proofs.Choice.{either}
 use Rattle.events.specs.declared.Entry.{Entry}
-use Rattle.station.specs.Model.{Address, Requester, Station, Call, clock, logging, frame, report, roam, change, accepted, Result}
-use Rattle.station.specs.Identity.{goodIdentity}
-use Rattle.station.specs.Requesters.{badList, find}
+use Rattle.model.specs.Model.{Address, Requester, Station, Call, clock, logging, frame, report, roam, change, accepted, Result}
+use Rattle.identities.specs.Identity.{goodIdentity}
+use Rattle.model.specs.Requesters.{badList, find}
 use Rattle.octets.specs.Refusals.{requesterList, identity}
-use Rattle.station.specs.Stations.{result, refusedFor, newStation, nobody, setup, tick, logEntry, logCall, Served, withRequester, serveFound, serveListed, frameCall, reportCall, renameWith, rename, act, readingOf, step}
-use Rattle.station.specs.Runs.{run, sender, reply, toSender}
-use Rattle.station.specs.Independence.{quiet, Origin, from, longer, isAccepted, since, freshReply, answers, freshAnswers, Independent, origin, IndependentCall}
-use Rattle.station.proofs.Seen.{seen, stepSeen, stepReply, seen-step, quiet-step, seen-reply}
+use Rattle.model.specs.Stations.{result, refusedFor, newStation, nobody, setup, tick, logEntry, logCall, Served, withRequester, serveFound, serveListed, frameCall, reportCall, renameWith, rename, act, readingOf, step}
+use Rattle.model.specs.Runs.{run, sender, reply, toSender}
+use Rattle.model.specs.Independence.{quiet, Origin, from, longer, isAccepted, since, freshReply, answers, freshAnswers, Independent, origin, IndependentCall}
+use Rattle.model.proofs.Seen.{seen, stepSeen, stepReply, seen-step, quiet-step, seen-reply}
 
 -- ---- no call changes the identity
 

@@ -12,12 +12,12 @@ use Rattle.octets.specs.declared.numbers.Kind.the-variants.{Diagnostic as Kind�
 use Rattle.octets.specs.Numbers.{successful, incapable}
 use Rattle.requests.specs.declared.Element.{Element}
 use Rattle.requests.specs.declared.Request.{Request}
-use Rattle.station.specs.declared.Diagnostic.{Diagnostic}
-use Rattle.station.specs.declared.Treatment.{Treatment}
-use Rattle.station.specs.declared.Treatment.the-variants.{Report, Incapable, Cancel, Identity}
-use Rattle.station.specs.Model.{DiagnosticRequest}
-use Rattle.station.specs.Fill.{Piece}
-use Rattle.station.specs.Parts.{reportElement}
+use Rattle.model.specs.declared.Diagnostic.{Diagnostic}
+use Rattle.model.specs.declared.Treatment.{Treatment}
+use Rattle.model.specs.declared.Treatment.the-variants.{Report, Incapable, Cancel, Identity}
+use Rattle.model.specs.Model.{DiagnosticRequest}
+use Rattle.model.specs.Fill.{Piece}
+use Rattle.model.specs.Parts.{reportElement}
 
 -- "type 0 (Cancel)"; "Diagnostic type 1 gives Successful with the identity; 2 to 255 give Incapable"
 unfoldable pub diagnosticTreatment : ℕ → Treatment

@@ -3,8 +3,8 @@
 use Prim.Native.Nat.{ℕ}
 use mathlib.Core.List.{List, [], _∷_}
 use mathlib.Core.Option.{Option, none, some}
-use Rattle.station.specs.Model.{Address, Station, Call, clock, logging, frame, report, roam, change, Answer}
-use Rattle.station.specs.Stations.{step}
+use Rattle.model.specs.Model.{Address, Station, Call, clock, logging, frame, report, roam, change, Answer}
+use Rattle.model.specs.Stations.{step}
 
 -- the station after a list of calls: each call is on the station that the one before it returned
 unfoldable pub run : Station → List Call → Station

@@ -1,6 +1,5 @@
 pub mod Model
 pub mod Parts
-pub mod Identity
 pub mod Requesters
 pub mod Fill
 pub mod Diagnostics
@@ -8,4 +7,3 @@ pub mod Events
 pub mod Stations
 pub mod Runs
 pub mod Independence
-pub mod Views

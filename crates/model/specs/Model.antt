@@ -8,7 +8,7 @@ use Rattle.octets.specs.declared.refusals.Refusal.{Refusal}
 use Rattle.requests.specs.declared.Element.{Element}
 use Rattle.events.specs.declared.Entry.{Entry}
 use Rattle.events.specs.declared.Transition.{Transition}
-use Rattle.station.specs.declared.Diagnostic.{Diagnostic}
+use Rattle.model.specs.declared.Diagnostic.{Diagnostic}
 
 -- "The log holds 64 events": its capacity
 abbrev pub logCapacity : ℕ

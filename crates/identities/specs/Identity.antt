@@ -7,15 +7,10 @@ use lib.Dec.{eqb, ltb}
 use lib.ListN.{length, getD}
 use Rattle.laws.specs.Choice.{if_then_else_}
 use Rattle.octets.specs.Elements.{pieceEnd}
-use Rattle.station.specs.declared.identity.Walk.{Walk}
+use Rattle.identities.specs.declared.Row.{Row}
+use Rattle.identities.specs.declared.Walk.{Walk}
 
 -- a row of Table v18: a subelement's ID, whether it must stand, and the least and the most octets of its body
-pub record Row : Type 0 where
-  pub id : ℕ
-  pub must : Bool
-  pub least : ℕ
-  pub most : ℕ
-
 abbrev pub row : ℕ → Bool → ℕ → ℕ → Row
 row id must least most = record { id = id; must = must; least = least; most = most }
 
@@ -34,6 +29,10 @@ rows =
     ∷ row 7 false 1 1
     ∷ row 21 false 1 249
     ∷ []
+
+-- what stands past the table: the default that the logic reads there
+abbrev pub pastRow : Row
+pastRow = row 0 false 0 0
 
 -- does the subelement of a row stand at a position?
 unfoldable pub stands : List ℕ → ℕ → Row → Bool
