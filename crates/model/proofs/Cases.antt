@@ -16,7 +16,7 @@ use Rattle.subelements.specs.Subelements.{wholeStep, step as Subelements·step,
 use Rattle.requests.specs.Elements.{subelementsOf, hasToken, badToken, withElement, ownStep, elementStep, walkElements}
 use Rattle.requests.specs.Requests.{requestOf, readKind, readRequest}
 use Rattle.events.specs.Choice.{firstOf, nextPlace}
-use Rattle.model.specs.Parts.{reportElement}
+use Rattle.reports.specs.Reports.{reportElement}
 use Rattle.identities.specs.Identity.{stands, passRow, goodFrom, goodIdentity}
 use Rattle.model.specs.Requesters.{holds, repeated, hasGroup, badList, newRequester, find, put}
 use Rattle.model.specs.Fill.{fillWith, fill, nextFrame}

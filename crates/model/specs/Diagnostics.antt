@@ -17,7 +17,7 @@ use Rattle.model.specs.declared.Treatment.{Treatment}
 use Rattle.model.specs.declared.Treatment.the-variants.{Report, Incapable, Cancel, Identity}
 use Rattle.model.specs.Model.{DiagnosticRequest}
 use Rattle.model.specs.Fill.{Piece}
-use Rattle.model.specs.Parts.{reportElement}
+use Rattle.reports.specs.Reports.{reportElement}
 
 -- "type 0 (Cancel)"; "Diagnostic type 1 gives Successful with the identity; 2 to 255 give Incapable"
 unfoldable pub diagnosticTreatment : ℕ → Treatment

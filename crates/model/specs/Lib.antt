@@ -1,5 +1,4 @@
 pub mod Model
-pub mod Parts
 pub mod Requesters
 pub mod Fill
 pub mod Diagnostics
