@@ -1,30 +1,32 @@
--- The station of the code as the model has it. A view takes what the counts say is there; a count past its array's end counts as the end,
+-- A requester of the code as the model has it. A view takes what the counts say is there; a count past its array's end counts as the end,
 -- and the free places are not looked at.
 -- Assumes nothing.
 use Prim.Native.Nat.{ℕ}
-use mathlib.Core.List.{List, map}
+use mathlib.Core.List.{List}
 use mathlib.Core.Option.{Option, none, some}
-use lib.Dec.{eqb}
 use lib.ListN.{take, drop}
 use Rattle.laws.specs.Choice.{if_then_else_}
-use Rattle.events.specs.declared.Entry.{Entry}
-use Rattle.events.specs.declared.Log.{Log}
-use Rattle.station.specs.Model.{EventRequest, DiagnosticRequest, Requester, Station, Answer, accepted, nothing, written, refused}
-use Rattle.station.specs.declared.EventRequest.{EventRequest as Code·EventRequest}
-use Rattle.station.specs.declared.DiagnosticRequest.{DiagnosticRequest as Code·DiagnosticRequest}
-use Rattle.station.specs.declared.Requester.{Requester as Code·Requester}
-use Rattle.station.specs.declared.Station.{Station as Code·Station}
-use Rattle.station.specs.declared.Answer.{Answer as Code·Answer}
-use Rattle.station.specs.declared.Answer.the-variants.{Accepted, Nothing, Length, Refused}
+use Rattle.model.specs.Model.{EventRequest, DiagnosticRequest, Requester, Answer, accepted, nothing, written, refused}
+use Rattle.requesters.specs.declared.EventRequest.{EventRequest as Code·EventRequest}
+use Rattle.requesters.specs.declared.DiagnosticRequest.{DiagnosticRequest as Code·DiagnosticRequest}
+use Rattle.requesters.specs.declared.Requester.{Requester as Code·Requester}
+use Rattle.requesters.specs.declared.giving.Progress.{Progress}
+use Rattle.requesters.specs.declared.Answer.{Answer as Code·Answer}
+use Rattle.requesters.specs.declared.Answer.the-variants.{Accepted, Nothing, Length, Refused}
 
 -- the elements left of an array: those from first to count
 abbrev pub left : {A : Type 0} → ℕ → ℕ → List A → List A
 left first count xs = drop first (take count xs)
 
+-- an event request that has come so far
+unfoldable pub eventsAt : Code·EventRequest → Progress → EventRequest
+eventsAt r p = record { dialog = r .dialog; mark = r .mark; given = p .given; start = p .start; elements = left (p .first) (r .count) (r .elements) }
+
+abbrev pub progressOf : Code·EventRequest → Progress
+progressOf r = record { first = r .first; given = r .given; start = r .start }
+
 unfoldable pub viewEvents : Code·EventRequest → Option EventRequest
-viewEvents r =
-    if r .outstanding then some (record { dialog = r .dialog; mark = r .mark; given = r .given; start = r .start; elements = left (r .first) (r .count) (r .elements) })
-    else none
+viewEvents r = if r .outstanding then some (eventsAt r (progressOf r)) else none
 
 unfoldable pub viewDiagnostics : Code·DiagnosticRequest → Option DiagnosticRequest
 viewDiagnostics r =
@@ -33,21 +35,6 @@ viewDiagnostics r =
 
 unfoldable pub viewRequester : Code·Requester → Requester
 viewRequester r = record { address = r .address; events = viewEvents (r .events); diagnostics = viewDiagnostics (r .diagnostics) }
-
-unfoldable pub viewLog : Log → List Entry
-viewLog l = take (l .count) (l .entries)
-
--- a length of 0: no identity
-unfoldable pub viewIdentity : ℕ → List ℕ → Option (List ℕ)
-viewIdentity n octets = if eqb n 0 then none else some (take n octets)
-
-unfoldable pub view : Code·Station → Station
-view g =
-    record {
-      identity = viewIdentity (g .length) (g .identity);
-      log = viewLog (g .log);
-      requesters = map viewRequester (take (g .count) (g .requesters));
-    }
 
 -- document 01's answer, with the number and the place of a refusal, for each case of the code's
 unfoldable pub viewAnswer : Code·Answer → Answer
