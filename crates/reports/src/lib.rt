@@ -54,7 +54,15 @@ pub fn put_event(buf: &mut [u8], token: u8, entry: Entry) -> usize
 }
 
 // A report with the first n octets of a list behind its status.
-fn put_rest(buf: &mut [u8], kind: Kind, token: u8, ty: u8, status: u8, list: &[u8], n: usize) -> usize
+fn put_rest(
+    buf: &mut [u8],
+    kind: Kind,
+    token: u8,
+    ty: u8,
+    status: u8,
+    list: &[u8],
+    n: usize,
+) -> usize
     requires { ⌜ (n ≤ 252) × (n ≤ length (now list)) ⌝ }
     ensures { λ r. ⌜ wrote r (now (buf .exit)) ≡ putFront (reportElement kind token ty status (take n (now (list .entry)))) (now (buf .entry)) ⌝ }
 {
@@ -67,7 +75,15 @@ fn put_rest(buf: &mut [u8], kind: Kind, token: u8, ty: u8, status: u8, list: &[u
 }
 
 // A report with a list behind its status: len octets, at most 252 (a diagnostic's subelements).
-pub fn put_list(buf: &mut [u8], kind: Kind, token: u8, ty: u8, status: u8, list: &[u8; 252], len: usize) -> usize
+pub fn put_list(
+    buf: &mut [u8],
+    kind: Kind,
+    token: u8,
+    ty: u8,
+    status: u8,
+    list: &[u8; 252],
+    len: usize,
+) -> usize
     ensures { λ r. ⌜ wrote r (now (buf .exit)) ≡ putFront (reportElement kind token ty status (take len (now (list .entry)))) (now (buf .entry)) ⌝ }
 {
     let n = least(len, LONGEST_LIST);

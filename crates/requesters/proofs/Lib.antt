@@ -1,2 +1,4 @@
 pub mod FillLaws
 pub mod EventLaws
+pub mod ReportLaws
+pub mod ServeLaws

@@ -4,9 +4,12 @@
 use Prim.Native.Nat.{ℕ}
 use mathlib.Core.List.{List}
 use mathlib.Core.Option.{Option, none, some}
+use lib.Dec.{eqb}
 use lib.ListN.{take, drop}
 use Rattle.laws.specs.Choice.{if_then_else_}
 use Rattle.model.specs.Model.{EventRequest, DiagnosticRequest, Requester, Answer, accepted, nothing, written, refused}
+use Rattle.model.specs.Stations.{Served, served}
+use Rattle.requesters.specs.declared.Served.{Served as Code·Served}
 use Rattle.requesters.specs.declared.EventRequest.{EventRequest as Code·EventRequest}
 use Rattle.requesters.specs.declared.DiagnosticRequest.{DiagnosticRequest as Code·DiagnosticRequest}
 use Rattle.requesters.specs.declared.Requester.{Requester as Code·Requester}
@@ -42,3 +45,11 @@ viewAnswer Accepted = accepted
 viewAnswer Nothing = nothing
 viewAnswer (Length n) = written n
 viewAnswer (Refused r) = refused r
+
+-- a length of 0: no identity
+unfoldable pub viewIdentity : ℕ → List ℕ → Option (List ℕ)
+viewIdentity n octets = if eqb n 0 then none else some (take n octets)
+
+-- what a call makes of its requester, with the lent buffer afterwards
+abbrev pub viewServed : Code·Served → List ℕ → Served
+viewServed r buffer = served (viewRequester (r .requester)) (viewAnswer (r .answer)) buffer

@@ -1,13 +1,18 @@
 // One requester (document 01: a console): what is left of its requests, and what each call makes of
 // them.
+mod answering;
+mod diagnostics;
 mod giving;
+mod reporting;
 
+pub use answering::Answered;
 pub use giving::Filled;
 pub use giving::Next;
 pub use giving::Progress;
 pub use giving::Turn;
 use model::Diagnostic;
 use octets::Refusal;
+pub use reporting::give_report;
 use requests::Element;
 use units::Milliseconds;
 
