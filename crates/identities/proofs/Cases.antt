@@ -1,4 +1,4 @@
--- Worked cases, each written out by hand from document 01; they hold by computation.
+-- Worked identities, each judged by hand from document 01; they hold by computation.
 -- Assumes nothing.
 use Prim.Native.Nat.{ℕ}
 use mathlib.Core.Path.{_≡_, refl}

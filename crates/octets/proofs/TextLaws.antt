@@ -1,15 +1,15 @@
 -- Laws of numbers as text.
 -- Assumes nothing.
-use Prim.Native.Nat.{ℕ, zero, suc, _+_, _-_, _*_, _/_, _%_, _^_, _≤_, _<_}
-use mathlib.Core.Path.{_≡_, refl, sym, _∙_, ap}
-use mathlib.Core.Bool.{Bool, true, false, _&&_}
+use Prim.Native.Nat.{ℕ, zero, suc, _+_, _-_, _/_, _%_, _^_, _≤_, _<_}
+use mathlib.Core.Path.{_≡_, sym, _∙_, ap}
+use mathlib.Core.Bool.{true, false, _&&_}
 use mathlib.Core.List.{List, [], _∷_}
 use native.Mathlib.Omega.{arith}
 use native.Mathlib.Nat.{div-lt-iff-lt-mul, pow-suc}
 use lib.Dec.{eqb, leb}
-use lib.ListN.{length, getD, drop, set, length-set}
+use lib.ListN.{length, drop, set, length-set}
 use lib.Seq.{drop-cons, getD-set-same, drop-set-lt}
-use borrow.Author.Tests.{eq-eqb, eqb-false, leb-false, le-leb}
+use borrow.Author.Tests.{eq-eqb, le-leb}
 use Rattle.laws.specs.Choice.{if_then_else_}
 use Rattle.laws.proofs.Choice.{either}
 use Rattle.octets.specs.Text.{digit, spell, decimal}

@@ -17,7 +17,7 @@ pub const SUCCESSFUL: u8 = 0;
 
 pub const FAIL: u8 = 1;
 
-pub const REFUSED: u8 = 2;
+pub const REFUSED_STATUS: u8 = 2;
 
 pub const INCAPABLE: u8 = 3;
 

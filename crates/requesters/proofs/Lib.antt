@@ -1,7 +1,4 @@
-pub mod General
-pub mod TestLaws
-pub mod PartLaws
-pub mod DialogLaws
-pub mod DiagnosticLaws
-pub mod RequesterLaws
-pub mod Cases
+pub mod FillLaws
+pub mod EventLaws
+pub mod ReportLaws
+pub mod ServeLaws

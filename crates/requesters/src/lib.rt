@@ -1,33 +1,24 @@
-// Requesters (document 01: consoles): what is left of their requests, the list that names them, and
-// what calls make of them.
-mod counts;
+// One requester (document 01: a console): what is left of its requests, and what each call makes of
+// them.
+mod answering;
 mod diagnostics;
-mod dialogs;
-mod event_requests;
-mod lists;
+mod giving;
+mod reporting;
 
-pub use diagnostics::diagnostic_treatment;
-pub use diagnostics::take_diagnostics;
-pub use event_requests::event_treatment;
-pub use event_requests::take_events;
-pub use lists::bad_list;
-pub use lists::find;
-pub use lists::lower_requesters;
-pub use lists::new_requesters;
-pub use lists::tick_requesters;
+pub use answering::Answered;
+pub use giving::Filled;
+pub use giving::Next;
+pub use giving::Progress;
+pub use giving::Turn;
+use model::Diagnostic;
+use octets::Refusal;
+pub use reporting::give_report;
 use requests::Element;
 use units::Milliseconds;
 
-// A diagnostic element that is not answered yet: its token, its type (ty), its timeout in seconds.
-pub struct Diagnostic {
-    pub token: u8,
-    pub ty: u8,
-    pub timeout: u16,
-}
-
-// An event request, where outstanding. Its elements left are those from first to count; the front one gave
-// so many events, and the search for its next one goes on at start. The log's first mark places
-// were logged before acceptance. Places outside first to count are free.
+// An event request, where outstanding. Its elements left are those from first to count; the front
+// one gave so many events, and the search for its next one goes on at start. The log's first mark
+// places were logged before acceptance. Places outside first to count are free.
 pub struct EventRequest {
     pub outstanding: bool,
     pub dialog: u8,
@@ -39,8 +30,8 @@ pub struct EventRequest {
     pub elements: [Element; 8],
 }
 
-// A diagnostic request, where outstanding, and the reading of its acceptance. Its elements left are those
-// from first to count; the other places are free.
+// A diagnostic request, where outstanding, and the reading of its acceptance. Its elements left are
+// those from first to count; the other places are free.
 pub struct DiagnosticRequest {
     pub outstanding: bool,
     pub dialog: u8,
@@ -57,10 +48,17 @@ pub struct Requester {
     pub diagnostics: DiagnosticRequest,
 }
 
-// What a type number decides: report events, answer Incapable, cancel, or give the identity.
-pub enum Treatment {
-    Report,
-    Incapable,
-    Cancel,
-    Identity,
+// The answer to a call.
+pub enum Answer {
+    Accepted,
+    Nothing,
+    // A frame of so many octets stands in the buffer.
+    Length(usize),
+    Refused(Refusal),
+}
+
+// What a call makes of its requester, and the answer.
+pub struct Served {
+    pub requester: Requester,
+    pub answer: Answer,
 }

@@ -1,7 +1,27 @@
-// Request frames (document 01, "Frames and elements", and causes 1 to 10 of its table).
+// Request frames (document 01, "Frames and elements", and causes 1 to 10 of its table): the fields
+// and the reader.
 use octets::Kind;
 use octets::Refusal;
+use octets::causes;
+use octets::numbers;
+use octets::octet;
+use octets::pair_at;
+use octets::piece_end;
+use octets::size;
 use subelements::Condition;
+use subelements::Subelements;
+use subelements::walk_conditions;
+use subelements::walk_edges;
+ghost use mathlib.Core.Path.{_≡_};
+ghost use Prim.Native.Nat.{_+_, _≤_, _<_};
+ghost use lib.ListN.{length, take};
+ghost use Rattle.octets.specs.Refusals.{noRefusal};
+ghost use Rattle.subelements.specs.Subelements.{walked};
+ghost use Rattle.requests.specs.Elements.{leastBody, limitAt, timeoutAt, subelementsOf, elementOf, hasToken, zeroToken, badToken, started, refusedElements, withElement, ownStep, elementStep, walkElements};
+ghost use Rattle.requests.specs.Requests.{refusedRequest, lacksElement, requestOf, readKind, readRequest};
+
+// The most elements that a request has.
+pub const MOST_ELEMENTS: usize = 8;
 
 // One request element: its token and type (ty), the response limit of an event, the timeout in
 // seconds of a diagnostic, the number of subelements walked, and the conditions of event type 0.
@@ -23,4 +43,321 @@ pub struct Request {
     pub dialog: u8,
     pub count: usize,
     pub elements: [Element; 8],
+}
+
+// How far a walk over the elements of a frame has come: refused, or the next position, and the
+// request elements so far.
+pub struct Elements {
+    pub refusal: Refusal,
+    pub at: usize,
+    pub count: usize,
+    pub elements: [Element; 8],
+}
+
+// The octets of a body before its subelements.
+fn least_body(kind: Kind) -> usize
+    ensures { λ r. ⌜ r ≡ leastBody kind ⌝ }
+{
+    match kind {
+        Kind::Event => 3,
+        Kind::Diagnostic => 4,
+    }
+}
+
+fn limit_at(s: &[u8], kind: Kind, at: usize) -> u8
+    requires { ⌜ at < 2304 ⌝ }
+    ensures { λ r. ⌜ r ≡ limitAt (now (s .entry)) kind at ⌝ }
+{
+    match kind {
+        Kind::Event => octet(s, at + 4),
+        Kind::Diagnostic => 0,
+    }
+}
+
+fn timeout_at(s: &[u8], kind: Kind, at: usize) -> u16
+    requires { ⌜ at < 2304 ⌝ }
+    ensures { λ r. ⌜ r ≡ timeoutAt (now (s .entry)) kind at ⌝ }
+{
+    match kind {
+        Kind::Event => 0,
+        Kind::Diagnostic => pair_at(s, at + 4),
+    }
+}
+
+// The subelements of a body that is not read past the limit.
+fn unread(end: usize) -> Subelements
+    ensures { λ r. ⌜ r ≡ walked noRefusal end ⌝ }
+{
+    Subelements {
+        refusal: Refusal::none(),
+        at: end,
+        count: 0,
+        filter: [Condition {
+            present: false,
+            octets: [0; 6],
+        }; 5],
+    }
+}
+
+// The subelements of an event, whose element stands from at to end.
+fn event_subelements(s: &[u8], at: usize, end: usize) -> Subelements
+    requires { ⌜ at < 2304 ⌝ }
+    ensures { λ r. ⌜ r ≡ subelementsOf (now (s .entry)) Kind.Event at end ⌝ }
+{
+    if octet(s, at + 3) == 0 {
+        return walk_conditions(s, at + 5, end);
+    }
+    unread(end)
+}
+
+fn subelements_of(s: &[u8], kind: Kind, at: usize, end: usize) -> Subelements
+    requires { ⌜ (at < 2304) × (end ≤ at + 257) ⌝ }
+    ensures { λ r. ⌜ (r ≡ subelementsOf (now (s .entry)) kind at end) × (r .count < 256) ⌝ }
+{
+    match kind {
+        Kind::Event => event_subelements(s, at, end),
+        Kind::Diagnostic => walk_edges(s, at + 6, end),
+    }
+}
+
+fn element_of(s: &[u8], kind: Kind, at: usize, subs: Subelements) -> Element
+    requires { ⌜ (at < 2304) × (subs .count < 256) ⌝ }
+    ensures { λ r. ⌜ r ≡ elementOf (now (s .entry)) kind at subs ⌝ }
+{
+    let filter = subs.filter;
+    Element {
+        token: octet(s, at + 2),
+        ty: octet(s, at + 3),
+        limit: limit_at(s, kind, at),
+        subs: subs.count as u8,
+        timeout: timeout_at(s, kind, at),
+        filter,
+    }
+}
+
+// Has one of the first n elements the token?
+fn has_token(es: [Element; 8], n: usize, token: u8) -> bool
+    ensures { λ r. ⌜ r ≡ hasToken (take n es) token ⌝ }
+{
+    let mut i: usize = 0;
+    while i < n {
+        if MOST_ELEMENTS <= i {
+            return false;
+        }
+        let e = es[i];
+        if e.token == token {
+            return true;
+        }
+        i += 1;
+    }
+    false
+}
+
+fn zero_token(kind: Kind, token: u8) -> bool
+    ensures { λ r. ⌜ r ≡ zeroToken kind token ⌝ }
+{
+    match kind {
+        Kind::Event => token == 0,
+        Kind::Diagnostic => false,
+    }
+}
+
+// Is a token refused behind the first n elements?
+pub fn bad_token(kind: Kind, es: [Element; 8], n: usize, token: u8) -> bool
+    ensures { λ r. ⌜ r ≡ badToken kind (take n es) token ⌝ }
+{
+    if zero_token(kind, token) {
+        return true;
+    }
+    has_token(es, n, token)
+}
+
+// A walk with no element yet.
+fn start(refusal: Refusal, at: usize) -> Elements
+    ensures { λ r. ⌜ r ≡ started refusal at ⌝ }
+{
+    Elements {
+        refusal,
+        at,
+        count: 0,
+        elements: [Element {
+            token: 0,
+            ty: 0,
+            limit: 0,
+            subs: 0,
+            timeout: 0,
+            filter: [Condition {
+                present: false,
+                octets: [0; 6],
+            }; 5],
+        }; 8],
+    }
+}
+
+fn refused(number: u8, place: usize) -> Elements
+    ensures { λ r. ⌜ r ≡ refusedElements number place ⌝ }
+{
+    start(Refusal::new(number, place), 0)
+}
+
+// The refusal of the element's subelements, or one element more.
+fn with_element(s: &[u8], kind: Kind, w: Elements, end: usize, subs: Subelements) -> Elements
+    requires { ⌜ (w .count < 8) × (w .at < 2304) × (subs .count < 256) ⌝ }
+    ensures { λ r. ⌜ r ≡ withElement (now (s .entry)) kind w end subs ⌝ }
+{
+    if subs.refusal.number != 0 {
+        return refused(subs.refusal.number, subs.refusal.place);
+    }
+    let n = w.count;
+    let mut elements = w.elements;
+    elements[n] = element_of(s, kind, w.at, subs);
+    Elements {
+        refusal: Refusal::none(),
+        at: end,
+        count: n + 1,
+        elements,
+    }
+}
+
+// Behind the whole element of the frame's own ID at w.at, which ends at end.
+fn own_step(s: &[u8], kind: Kind, w: Elements, end: usize) -> Elements
+    requires { ⌜ (w .at < 2304) × (end ≤ w .at + 257) × (w .count ≤ 8) ⌝ }
+    ensures { λ r. ⌜ r ≡ ownStep (now (s .entry)) kind w end ⌝ }
+{
+    let at = w.at;
+    let count = w.count;
+    if MOST_ELEMENTS <= count {
+        return refused(causes::NINTH_ELEMENT, at);
+    }
+    if size(s, at + 1) < least_body(kind) {
+        return refused(causes::ELEMENT_LENGTH, at);
+    }
+    let elements = w.elements;
+    if bad_token(kind, elements, count, octet(s, at + 2)) {
+        return refused(causes::ELEMENT_TOKEN, at);
+    }
+    with_element(s, kind, w, end, subelements_of(s, kind, at, end))
+}
+
+// Behind the element at w.at.
+fn element_step(s: &[u8], kind: Kind, w: Elements) -> Elements
+    requires { ⌜ (w .at < 2304) × (w .count ≤ 8) ⌝ }
+    ensures { λ r. ⌜ r ≡ elementStep (now (s .entry)) kind w ⌝ }
+{
+    let at = w.at;
+    let end = piece_end(s, at, s.len());
+    if end == 0 {
+        return refused(causes::ELEMENT_EDGE, at);
+    }
+    if octet(s, at) != kind.request_id() {
+        let elements = w.elements;
+        return Elements {
+            refusal: Refusal::none(),
+            at: end,
+            count: w.count,
+            elements,
+        };
+    }
+    own_step(s, kind, w, end)
+}
+
+fn walk_elements(s: &[u8], kind: Kind) -> Elements
+    requires { ⌜ length (now s) ≤ 2304 ⌝ }
+    ensures { λ r. ⌜ r ≡ walkElements (now (s .entry)) kind ⌝ }
+{
+    let mut w = start(Refusal::none(), 3);
+    while w.at < s.len() {
+        w = element_step(s, kind, w);
+        if w.refusal.number != 0 {
+            return w;
+        }
+    }
+    w
+}
+
+fn refused_request(number: u8, place: usize) -> Request
+    ensures { λ r. ⌜ r ≡ refusedRequest number place ⌝ }
+{
+    Request {
+        refusal: Refusal::new(number, place),
+        kind: Kind::Event,
+        dialog: 0,
+        count: 0,
+        elements: [Element {
+            token: 0,
+            ty: 0,
+            limit: 0,
+            subs: 0,
+            timeout: 0,
+            filter: [Condition {
+                present: false,
+                octets: [0; 6],
+            }; 5],
+        }; 8],
+    }
+}
+
+// Does a request of a kind lack its element?
+pub fn lacks_element(kind: Kind, count: usize) -> bool
+    ensures { λ r. ⌜ r ≡ lacksElement kind count ⌝ }
+{
+    match kind {
+        Kind::Event => false,
+        Kind::Diagnostic => count == 0,
+    }
+}
+
+fn request_of(kind: Kind, dialog: u8, w: Elements) -> Request
+    ensures { λ r. ⌜ r ≡ requestOf kind dialog w ⌝ }
+{
+    if w.refusal.number != 0 {
+        return refused_request(w.refusal.number, w.refusal.place);
+    }
+    let count = w.count;
+    if lacks_element(kind, count) {
+        return refused_request(causes::NO_ELEMENT, 0);
+    }
+    let elements = w.elements;
+    Request {
+        refusal: Refusal::none(),
+        kind,
+        dialog,
+        count,
+        elements,
+    }
+}
+
+// A frame whose action is that of a kind.
+fn read_kind(s: &[u8], kind: Kind) -> Request
+    requires { ⌜ length (now s) ≤ 2304 ⌝ }
+    ensures { λ r. ⌜ r ≡ readKind (now (s .entry)) kind ⌝ }
+{
+    let dialog = octet(s, 2);
+    if dialog == 0 {
+        return refused_request(causes::DIALOG_TOKEN, 0);
+    }
+    request_of(kind, dialog, walk_elements(s, kind))
+}
+
+// Reads one request frame.
+pub fn read_request(s: &[u8]) -> Request
+    ensures { λ r. ⌜ r ≡ readRequest (now (s .entry)) ⌝ }
+{
+    if s.len() < numbers::SHORTEST_FRAME {
+        return refused_request(causes::FRAME_LENGTH, 0);
+    }
+    if numbers::LONGEST_FRAME < s.len() {
+        return refused_request(causes::FRAME_LENGTH, 0);
+    }
+    if octet(s, 0) != numbers::CATEGORY {
+        return refused_request(causes::FRAME_HEADER, 0);
+    }
+    let action = octet(s, 1);
+    if action == Kind::Event.request_action() {
+        return read_kind(s, Kind::Event);
+    }
+    if action == Kind::Diagnostic.request_action() {
+        return read_kind(s, Kind::Diagnostic);
+    }
+    refused_request(causes::FRAME_HEADER, 0)
 }

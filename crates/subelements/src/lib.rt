@@ -8,7 +8,6 @@ use octets::size;
 ghost use mathlib.Core.Path.{_≡_};
 ghost use Prim.Native.Nat.{_+_, _≤_, _<_, _^_};
 ghost use lib.ListN.{getD};
-ghost use Rattle.octets.specs.Elements.{pieceEnd};
 ghost use Rattle.subelements.specs.Subelements.{lengthOf, bodyOctet, bodyAt, walked, refusedWalk, wholeStep, step as Subelements·step, walk as Subelements·walk};
 
 // The subelement of one ID of the table: absent (its octets 0), or present with its body (0 past

@@ -1,4 +1,4 @@
--- `identities::good_identity` meets its contract.
+-- `station::good_identity` meets its contract.
 -- Assumes nothing.
 use borrow.Author.Tests.{lt-ltb, le-ltb}
 use Rattle.laws.specs.Choice.{if_then_else_}

@@ -1,6 +1,5 @@
 -- `subelements::whole_step` meets its contract: each return rewrites with the tests that led there.
 -- Assumes nothing.
-use mathlib.Core.Path.{_≡_, sym, _∙_}
 use borrow.Author.Tests.{le-leb, lt-leb, eq-eqb, ne-eqb}
 use Rattle.laws.specs.Choice.{if_then_else_}
 use Rattle.subelements.specs.Subelements.{wholeStep}

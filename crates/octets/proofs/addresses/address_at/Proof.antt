@@ -1,7 +1,7 @@
 -- `octets::address_at` meets its contract: past the end every octet is 0.
 -- Assumes nothing.
 use Prim.Native.Nat.{ℕ, _+_, _≤_}
-use mathlib.Core.Path.{_≡_, sym}
+use mathlib.Core.Path.{_≡_}
 use lib.ListN.{getD, List·getD-eq-default}
 use native.Mathlib.Omega.{arith}
 use Rattle.octets.specs.Addresses.{addressAt}

@@ -1,8 +1,7 @@
 -- `octets::put` meets its contract: all that lies behind the first octets is lent to the copy.
 -- Assumes nothing.
 use Prim.Native.Nat.{_+_, _-_}
-use mathlib.Core.Path.{_≡_, refl, sym, ap, _∙_}
-use mathlib.Core.List.{_++_}
+use mathlib.Core.Path.{refl, sym, ap, _∙_}
 use native.Mathlib.Omega.{arith}
 use lib.ListN.{length, take, drop}
 use Rattle.laws.specs.Buffers.{wrote}

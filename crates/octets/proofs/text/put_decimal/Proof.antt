@@ -1,14 +1,13 @@
 -- `octets::put_decimal` meets its contract. The invariant, `Spelling`: what is spelt from here on, in front of the digits that are there,
 -- is the number. Assumes nothing.
-use Prim.Native.Nat.{ℕ, _≤_, _-_, _/_}
-use mathlib.Core.Path.{_≡_, refl, sym, ap, _∙_}
+use Prim.Native.Nat.{ℕ, _-_}
+use mathlib.Core.Path.{_≡_, refl, sym, _∙_}
 use mathlib.Core.List.{List}
 use native.Mathlib.Omega.{arith}
-use lib.ListN.{length, take, drop, set, length-set, length-drop}
+use lib.ListN.{length, drop, set, length-set, length-drop}
 use lib.Seq.{take-all}
 use borrow.Author.Needs.{needs}
-use Rattle.laws.specs.Buffers.{putAt}
-use Rattle.octets.specs.Text.{spell, decimal}
+use Rattle.octets.specs.Text.{decimal}
 use Rattle.octets.proofs.TextLaws.{Spelling, spelling-last, spelling-next, spelling-all}
 use Rattle.octets.proofs.text.put_decimal.Statement.{statement}
 use Rattle.octets.proofs.text.put_decimal.Tie as tie

@@ -1,6 +1,5 @@
 -- `octets::put_hex` meets its contract.
 -- Assumes nothing.
-use mathlib.Core.Path.{_≡_, ap, _∙_}
 use Rattle.octets.specs.Text.{hex}
 use borrow.Author.Needs.{needs}
 use Rattle.octets.proofs.text.put_hex.Statement.{statement}

@@ -1,0 +1,319 @@
+-- What a station is for one sender: its identity, its log and the sender's own slot. Every call makes of it what it makes of the station,
+-- another sender's call no more than a bare clock reading, and the reply to a sender follows from it.
+-- Assumes nothing.
+use Prim.Native.Nat.{ℕ}
+use mathlib.Core.Path.{_≡_, refl, sym, _∙_, ap}
+use mathlib.Core.Bool.{Bool, true, false, not}
+use mathlib.Core.List.{List, [], _∷_, map}
+use mathlib.Core.Option.{Option, none, some, Option·map, Option·some-injective}
+use Rattle.laws.specs.Choice.{if_then_else_}
+use Rattle.laws.proofs.Choice.{either}
+use Rattle.octets.specs.declared.numbers.Kind.{Kind}
+use Rattle.octets.specs.declared.numbers.Kind.the-variants.{Event, Diagnostic}
+use Rattle.octets.specs.Addresses.{same, isGroup}
+use Rattle.octets.specs.Times.{goodTime}
+use Rattle.octets.specs.Refusals.{groupDestination, unknownRequester}
+use Rattle.octets.proofs.AddressLaws.{same-refl, same-true}
+use Rattle.requests.specs.declared.Request.{Request}
+use Rattle.events.specs.declared.Entry.{Entry}
+use Rattle.events.specs.declared.Transition.{Transition}
+use Rattle.model.specs.Model.{Address, logCapacity, Requester, Station, Call, clock, logging, frame, report, roam, change, accepted, Result}
+use Rattle.requests.specs.Requests.{readRequest}
+use Rattle.events.specs.Log.{pushed, entryOf}
+use Rattle.model.specs.Requesters.{badList, newRequester, find, put}
+use Rattle.model.specs.Stations.{refusedFor, tickRequester, tick, logRequester, logEntry, logCall, Served, served, withRequester, serveFound, serveListed, takeKind, takeRequest, frameCall, giveEvents, giveDiagnostics, ifOutstanding, octetsOf, giveKind, giveReport, reportCall, renameWith, rename, act, readingOf, step}
+use Rattle.model.specs.Runs.{sender, Reply, reply, toSender}
+use Rattle.model.specs.Independence.{quietFor, quiet}
+
+-- ---- general
+
+pub apply-if : {A B : Type 0} (f : A → B) (b : Bool) (x y : A) → f (if b then x else y) ≡ (if b then f x else f y)
+unfolding if_then_else_
+apply-if f true x y = refl
+apply-if f false x y = refl
+
+pub same-sym : (a b : Address) → same a b ≡ same b a
+same-sym a b = go (same a b) (same b a) refl refl
+  where
+    go : (s t : Bool) → same a b ≡ s → same b a ≡ t → s ≡ t
+    go true true p q = refl
+    go true false p q = sym (same-refl b) ∙ ap (same b) (sym (same-true a b p)) ∙ q
+    go false true p q = sym p ∙ ap (same a) (same-true b a q) ∙ same-refl a
+    go false false p q = refl
+
+-- ---- the requester that an address finds
+
+-- a function that keeps each requester's address
+abbrev Keeps : (Requester → Requester) → Type 0
+Keeps f = (r : Requester) → f r .address ≡ r .address
+
+find-map : (f : Requester → Requester) → Keeps f → (s : Address) (rs : List Requester) → find s (map f rs) ≡ Option·map f (find s rs)
+unfolding find
+find-map f k s [] = refl
+find-map f k s (r ∷ rs) =
+    ap (λ (a : Address). if same s a then some (f r) else find s (map f rs)) (k r)
+    ∙ ap (λ (o : Option Requester). if same s (r .address) then some (f r) else o) (find-map f k s rs)
+    ∙ sym (apply-if (Option·map f) (same s (r .address)) (some r) (find s rs))
+
+module _ (a : Address) (x r : Requester) (keeps : x .address ≡ r .address) where
+  put-own : (rs : List Requester) → find a rs ≡ some r → find a (put a x rs) ≡ some x
+  unfolding find put if_then_else_
+  put-own [] e = cc
+  put-own (q ∷ rs) e = go (same a (q .address)) refl e (put-own rs)
+    where
+      go : (t : Bool) → same a (q .address) ≡ t → (if t then some q else find a rs) ≡ some r → (find a rs ≡ some r → find a (put a x rs) ≡ some x)
+          → find a (if t then x ∷ rs else q ∷ put a x rs) ≡ some x
+      go true p h rest =
+          let d : x .address ≡ q .address = keeps ∙ ap (λ (y : Requester). y .address) (sym (Option·some-injective q r h)) in
+          rw (d, p)
+      go false p h rest = rw (p) (rest h)
+
+  put-other : (s : Address) → same a s ≡ false → (rs : List Requester) → find a rs ≡ some r → find s (put a x rs) ≡ find s rs
+  unfolding find put if_then_else_
+  put-other s n [] e = refl
+  put-other s n (q ∷ rs) e = go (same a (q .address)) refl e (put-other s n rs)
+    where
+      apart : same a (q .address) ≡ true → same s (q .address) ≡ false
+      apart p = ap (same s) (sym (same-true a (q .address) p)) ∙ same-sym s a ∙ n
+
+      go : (t : Bool) → same a (q .address) ≡ t → (if t then some q else find a rs) ≡ some r → (find a rs ≡ some r → find s (put a x rs) ≡ find s rs)
+          → find s (if t then x ∷ rs else q ∷ put a x rs) ≡ (if same s (q .address) then some q else find s rs)
+      go true p h rest =
+          let d : x .address ≡ q .address = keeps ∙ ap (λ (y : Requester). y .address) (sym (Option·some-injective q r h)) in
+          rw (d, apart p)
+      go false p h rest = ap (λ (o : Option Requester). if same s (q .address) then some q else o) (rest h)
+
+-- ---- what a sender sees
+
+pub record Seen : Type 0 where
+  pub identity : Option (List ℕ)
+  pub log : List Entry
+  pub slot : Option Requester
+
+pub seen : Address → Station → Seen
+seen s g = record { identity = g .identity; log = g .log; slot = find s (g .requesters) }
+
+abbrev withSlot : Seen → Option Requester → Seen
+withSlot v o = record { identity = v .identity; log = v .log; slot = o }
+
+abbrev onSlot : (Requester → Requester) → Seen → Seen
+onSlot f v = withSlot v (Option·map f (v .slot))
+
+tickSeen : ℕ → Seen → Seen
+tickSeen reading v = onSlot (tickRequester reading) v
+
+logSeen : ℕ → Transition → Seen → Seen
+logSeen reading e v =
+    if not (goodTime (e .time)) then v
+    else record { identity = v .identity; log = pushed logCapacity (v .log) (entryOf reading e); slot = Option·map (logRequester (v .log)) (v .slot) }
+
+servedSeen : Address → Address → (Requester → Served) → Seen → Seen
+servedSeen s a serve v = if same a s then onSlot (λ r. serve r .requester) v else v
+
+renamedSeen : Address → List Entry → List Address → Seen → Option (List ℕ) → Seen
+renamedSeen s log l v none = v
+renamedSeen s log l v (some i) = record { identity = some i; log = log; slot = find s (map newRequester l) }
+
+renameSeen : Address → List Entry → List Address → Seen → Seen
+renameSeen s log l v = if badList l then v else renamedSeen s log l v (v .identity)
+
+-- what a call makes of it, the late diagnostics dropped
+actSeen : Address → Call → Seen → Seen
+actSeen s (clock t) v = v
+actSeen s (logging t e) v = logSeen t e v
+actSeen s (frame t d a o) v = if isGroup d then v else servedSeen s a (takeRequest t (v .log) (readRequest o)) v
+actSeen s (report t a k b) v = servedSeen s a (giveReport (v .identity) (v .log) k b) v
+actSeen s (roam t l) v = renameSeen s (v .log) l v
+actSeen s (change t l) v = renameSeen s [] l v
+
+pub stepSeen : Address → Call → Seen → Seen
+stepSeen s c v = actSeen s c (tickSeen (readingOf c) v)
+
+-- ---- every piece keeps the address
+
+tick-keeps : (reading : ℕ) → Keeps (tickRequester reading)
+unfolding tickRequester
+tick-keeps reading r = refl
+
+log-keeps : (log : List Entry) → Keeps (logRequester log)
+unfolding logRequester
+log-keeps log r = either (λ (x : Requester). x .address ≡ r .address) _ _ _ (λ _. refl) (λ _. refl)
+
+kind-keeps : (reading : ℕ) (log : List Entry) (q : Request) (r : Requester) (k : Kind) → takeKind reading log q r k .address ≡ r .address
+unfolding takeKind
+kind-keeps reading log q r Event = refl
+kind-keeps reading log q r Diagnostic = refl
+
+-- a call that keeps the address of its requester
+abbrev ServeKeeps : (Requester → Served) → Type 0
+ServeKeeps serve = (r : Requester) → serve r .requester .address ≡ r .address
+
+take-keeps : (reading : ℕ) (log : List Entry) (q : Request) → ServeKeeps (takeRequest reading log q)
+unfolding takeRequest
+take-keeps reading log q r =
+    either (λ (x : Served). x .requester .address ≡ r .address) _ _ _ (λ _. refl) (λ _. kind-keeps reading log q r (q .kind))
+
+outstanding-keeps : {Q : Type 0} (give : Q → Served) (r : Requester) (b : List ℕ) → ((q : Q) → give q .requester .address ≡ r .address)
+    → (o : Option Q) → ifOutstanding give r b o .requester .address ≡ r .address
+unfolding ifOutstanding
+outstanding-keeps give r b k none = refl
+outstanding-keeps give r b k (some q) = k q
+
+give-kind-keeps : (i : Option (List ℕ)) (log : List Entry) (b : List ℕ) (r : Requester) (k : Kind) → giveKind i log b r k .requester .address ≡ r .address
+unfolding giveKind giveEvents giveDiagnostics
+give-kind-keeps i log b r Event = outstanding-keeps (giveEvents log b r) r b (λ q. refl) (r .events)
+give-kind-keeps i log b r Diagnostic = outstanding-keeps (giveDiagnostics (octetsOf i) b r) r b (λ q. refl) (r .diagnostics)
+
+give-keeps : (i : Option (List ℕ)) (log : List Entry) (k : Kind) (b : List ℕ) → ServeKeeps (giveReport i log k b)
+unfolding giveReport
+give-keeps i log k b r =
+    either (λ (x : Served). x .requester .address ≡ r .address) _ _ _ (λ _. refl) (λ _. give-kind-keeps i log b r k)
+
+-- ---- a call makes of what is seen what it makes of the station
+
+seen-tick : (s : Address) (reading : ℕ) (g : Station) → seen s (tick reading g) ≡ tickSeen reading (seen s g)
+unfolding seen tick tickSeen
+seen-tick s reading g = ap (withSlot (seen s g)) (find-map (tickRequester reading) (tick-keeps reading) s (g .requesters))
+
+seen-log : (s : Address) (reading : ℕ) (e : Transition) (g : Station) → seen s (logCall reading e g .station) ≡ logSeen reading e (seen s g)
+unfolding seen logCall logEntry logSeen
+seen-log s reading e g =
+    apply-if (λ (x : Result). seen s (x .station)) (not (goodTime (e .time))) _ _
+    ∙ ap (λ (o : Option Requester). if not (goodTime (e .time)) then seen s g else record { identity = g .identity; log = pushed logCapacity (g .log) (entryOf reading e); slot = o })
+    (find-map (logRequester (g .log)) (log-keeps (g .log)) s (g .requesters))
+
+module _ (s a : Address) (serve : Requester → Served) (b : List ℕ) (g : Station) (keeps : ServeKeeps serve) where
+  seen-found : (o : Option Requester) → find a (g .requesters) ≡ o → (t : Bool) → same a s ≡ t
+      → seen s (serveFound a serve b g o .station) ≡ (if t then onSlot (λ r. serve r .requester) (seen s g) else seen s g)
+  unfolding seen serveFound withRequester if_then_else_
+  seen-found none e true p =
+      let f : find s (g .requesters) ≡ none = ap (λ (x : Address). find x (g .requesters)) (sym (same-true a s p)) ∙ e in
+      rw f
+  seen-found none e false p = refl
+  seen-found (some r) e true p =
+      let q : a ≡ s = same-true a s p in
+      let f : find s (g .requesters) ≡ some r = ap (λ (x : Address). find x (g .requesters)) (sym q) ∙ e in
+      ap (withSlot (seen s g))
+      (ap (λ (x : Address). find s (put x (serve r .requester) (g .requesters))) q
+      ∙ put-own s (serve r .requester) r (keeps r) (g .requesters) f
+      ∙ ap (Option·map (λ (x : Requester). serve x .requester)) (sym f))
+  seen-found (some r) e false p = ap (withSlot (seen s g)) (put-other a (serve r .requester) r (keeps r) s p (g .requesters) e)
+
+  seen-served : seen s (serveListed a serve b g .station) ≡ servedSeen s a serve (seen s g)
+  unfolding serveListed servedSeen
+  seen-served = seen-found (find a (g .requesters)) refl (same a s) refl
+
+seen-renamed : (s : Address) (log : List Entry) (l : List Address) (g : Station) (o : Option (List ℕ))
+    → seen s (renameWith log l g o .station) ≡ renamedSeen s log l (seen s g) o
+unfolding seen renameWith renamedSeen
+seen-renamed s log l g none = refl
+seen-renamed s log l g (some i) = refl
+
+seen-rename : (s : Address) (log : List Entry) (l : List Address) (g : Station) → seen s (rename log l g .station) ≡ renameSeen s log l (seen s g)
+unfolding rename renameSeen seen
+seen-rename s log l g =
+    apply-if (λ (x : Result). seen s (x .station)) (badList l) _ _
+    ∙ ap (λ (v : Seen). if badList l then seen s g else v) (seen-renamed s log l g (g .identity))
+
+seen-act : (s : Address) (c : Call) (g : Station) → seen s (act c g .station) ≡ actSeen s c (seen s g)
+unfolding act actSeen seen frameCall reportCall
+seen-act s (clock t) g = refl
+seen-act s (logging t e) g = seen-log s t e g
+seen-act s (frame t d a o) g =
+    apply-if (λ (x : Result). seen s (x .station)) (isGroup d) _ _
+    ∙ ap (λ (v : Seen). if isGroup d then seen s g else v)
+    (seen-served s a (takeRequest t (g .log) (readRequest o)) [] g (take-keeps t (g .log) (readRequest o)))
+seen-act s (report t a k b) g = seen-served s a (giveReport (g .identity) (g .log) k b) b g (give-keeps (g .identity) (g .log) k b)
+seen-act s (roam t l) g = seen-rename s (g .log) l g
+seen-act s (change t l) g = seen-rename s [] l g
+
+pub seen-step : (s : Address) (c : Call) (g : Station) → seen s (step g c .station) ≡ stepSeen s c (seen s g)
+unfolding step stepSeen
+seen-step s c g = seen-act s c (tick (readingOf c) g) ∙ ap (actSeen s c) (seen-tick s (readingOf c) g)
+
+-- ---- a call of another sender makes of it what a bare clock reading does
+
+unserved : (s a : Address) (serve : Requester → Served) (v : Seen) → same a s ≡ false → servedSeen s a serve v ≡ v
+unfolding servedSeen if_then_else_
+unserved s a serve v e = rw e
+
+pub quiet-step : (s : Address) (c : Call) (v : Seen) → stepSeen s (quiet s c) v ≡ stepSeen s c v
+unfolding stepSeen sender quietFor actSeen readingOf if_then_else_
+quiet-step s (clock t) v = refl
+quiet-step s (logging t e) v = refl
+quiet-step s (frame t d a o) v = go (same a s) refl (isGroup d)
+  where
+    w : Seen
+    w = tickSeen t v
+
+    serve : Requester → Served
+    serve = takeRequest t (w .log) (readRequest o)
+
+    go : (b : Bool) → same a s ≡ b → (h : Bool) → stepSeen s (if b then frame t d a o else clock t) v ≡ (if isGroup d then w else servedSeen s a serve w)
+    go true e h = refl
+    go false e h = either (λ (x : Seen). w ≡ x) (isGroup d) w (servedSeen s a serve w) (λ _. refl) (λ _. sym (unserved s a serve w e))
+quiet-step s (report t a k b) v = go (same a s) refl
+  where
+    w : Seen
+    w = tickSeen t v
+
+    serve : Requester → Served
+    serve = giveReport (w .identity) (w .log) k b
+
+    go : (x : Bool) → same a s ≡ x → stepSeen s (if x then report t a k b else clock t) v ≡ servedSeen s a serve w
+    go true e = refl
+    go false e = sym (unserved s a serve w e)
+quiet-step s (roam t l) v = refl
+quiet-step s (change t l) v = refl
+
+-- ---- the reply to a sender follows from what it sees
+
+abbrev replyOf : Result → Reply
+replyOf x = record { answer = x .answer; buffer = x .buffer }
+
+servedReply : (Requester → Served) → List ℕ → Option Requester → Reply
+servedReply serve b none = record { answer = refusedFor unknownRequester; buffer = b }
+servedReply serve b (some r) = record { answer = serve r .answer; buffer = serve r .buffer }
+
+-- of a call that has a sender
+seenReply : Call → Seen → Reply
+seenReply (frame t d a o) v =
+    if isGroup d then record { answer = refusedFor groupDestination; buffer = [] }
+    else servedReply (takeRequest t (v .log) (readRequest o)) [] (v .slot)
+seenReply (report t a k b) v = servedReply (giveReport (v .identity) (v .log) k b) b (v .slot)
+seenReply (clock t) v = record { answer = accepted; buffer = [] }
+seenReply (logging t e) v = record { answer = accepted; buffer = [] }
+seenReply (roam t l) v = record { answer = accepted; buffer = [] }
+seenReply (change t l) v = record { answer = accepted; buffer = [] }
+
+pub stepReply : Call → Seen → Reply
+stepReply c v = seenReply c (tickSeen (readingOf c) v)
+
+reply-found : (a : Address) (serve : Requester → Served) (b : List ℕ) (g : Station) (o : Option Requester)
+    → replyOf (serveFound a serve b g o) ≡ servedReply serve b o
+unfolding serveFound servedReply
+reply-found a serve b g none = refl
+reply-found a serve b g (some r) = refl
+
+module _ (t : ℕ) (a : Address) where
+  frame-reply : (d : Address) (o : List ℕ) (g : Station) → replyOf (act (frame t d a o) g) ≡ seenReply (frame t d a o) (seen a g)
+  unfolding act frameCall serveListed seenReply seen
+  frame-reply d o g =
+      apply-if replyOf (isGroup d) _ _
+      ∙ ap (λ (x : Reply). if isGroup d then record { answer = refusedFor groupDestination; buffer = [] } else x)
+      (reply-found a (takeRequest t (g .log) (readRequest o)) [] g (find a (g .requesters)))
+
+  report-reply : (k : Kind) (b : List ℕ) (g : Station) → replyOf (act (report t a k b) g) ≡ seenReply (report t a k b) (seen a g)
+  unfolding act reportCall serveListed seenReply seen
+  report-reply k b g = reply-found a (giveReport (g .identity) (g .log) k b) b g (find a (g .requesters))
+
+pub seen-reply : (c : Call) (g : Address → Station) → toSender (sender c) (λ s. reply (g s) c) ≡ toSender (sender c) (λ s. stepReply c (seen s (g s)))
+unfolding reply step sender toSender readingOf stepReply
+seen-reply (clock t) g = refl
+seen-reply (logging t e) g = refl
+seen-reply (frame t d a o) g =
+    ap (λ (x : Reply). some x) (frame-reply t a d o (tick t (g a)) ∙ ap (seenReply (frame t d a o)) (seen-tick a t (g a)))
+seen-reply (report t a k b) g =
+    ap (λ (x : Reply). some x) (report-reply t a k b (tick t (g a)) ∙ ap (seenReply (report t a k b)) (seen-tick a t (g a)))
+seen-reply (roam t l) g = refl
+seen-reply (change t l) g = refl

@@ -1,0 +1,91 @@
+-- Document 01: diagnostic requests: the late drop, what an accepted frame leaves, and what a report takes.
+-- Assumes nothing.
+use Prim.Native.Nat.{ℕ, _*_}
+use mathlib.Core.Bool.{Bool, true, false, _||_}
+use mathlib.Core.List.{List, [], _∷_, map}
+use mathlib.Core.Option.{Option, none, some}
+use lib.Dec.{eqb}
+use lib.ListN.{take}
+use Rattle.laws.specs.Choice.{if_then_else_}
+use Rattle.units.specs.Time.{age, exceeds}
+use Rattle.octets.specs.declared.numbers.Kind.the-variants.{Diagnostic as Kind·Diagnostic}
+use Rattle.octets.specs.Numbers.{successful, incapable}
+use Rattle.requests.specs.declared.Element.{Element}
+use Rattle.requests.specs.declared.Request.{Request}
+use Rattle.model.specs.declared.Diagnostic.{Diagnostic}
+use Rattle.model.specs.declared.Treatment.{Treatment}
+use Rattle.model.specs.declared.Treatment.the-variants.{Report, Incapable, Cancel, Identity}
+use Rattle.model.specs.Model.{DiagnosticRequest}
+use Rattle.model.specs.Fill.{Piece}
+use Rattle.reports.specs.Reports.{reportElement}
+
+-- "type 0 (Cancel)"; "Diagnostic type 1 gives Successful with the identity; 2 to 255 give Incapable"
+unfoldable pub diagnosticTreatment : ℕ → Treatment
+diagnosticTreatment ty = if eqb ty 0 then Cancel else if eqb ty 1 then Identity else Incapable
+
+-- ---- the late drop
+
+-- "whose age since acceptance is more than its timeout times 1,000"
+unfoldable pub isLate : ℕ → ℕ → Diagnostic → Bool
+isLate reading accepted x = exceeds (age reading accepted) (x .timeout * 1000)
+
+unfoldable pub onTime : ℕ → ℕ → List Diagnostic → List Diagnostic
+onTime reading accepted [] = []
+onTime reading accepted (x ∷ xs) =
+    if isLate reading accepted x then onTime reading accepted xs
+    else x ∷ onTime reading accepted xs
+
+-- "A diagnostic request with none left is over."
+unfoldable pub unlessOver : ℕ → ℕ → List Diagnostic → Option DiagnosticRequest
+unlessOver dialog accepted [] = none
+unlessOver dialog accepted (x ∷ xs) = some (record { dialog = dialog; accepted = accepted; elements = x ∷ xs })
+
+unfoldable pub dropLate : ℕ → Option DiagnosticRequest → Option DiagnosticRequest
+dropLate reading none = none
+dropLate reading (some r) = unlessOver (r .dialog) (r .accepted) (onTime reading (r .accepted) (r .elements))
+
+-- ---- an accepted frame
+
+unfoldable pub isCancel : Treatment → Bool
+isCancel Report = false
+isCancel Incapable = false
+isCancel Cancel = true
+isCancel Identity = false
+
+unfoldable pub holdsCancel : List Diagnostic → Bool
+holdsCancel [] = false
+holdsCancel (x ∷ xs) = isCancel (diagnosticTreatment (x .ty)) || holdsCancel xs
+
+abbrev pub diagnosticOf : Element → Diagnostic
+diagnosticOf x = record { token = x .token; ty = x .ty; timeout = x .timeout }
+
+-- the elements that a request asks for
+unfoldable pub diagnosticsOf : Request → List Diagnostic
+diagnosticsOf q = map diagnosticOf (take (q .count) (q .elements))
+
+-- "An accepted frame with another dialog token replaces that console's request of the same kind. An accepted frame with the same token
+-- while outstanding changes nothing."
+unfoldable pub replaceDiagnostics : ℕ → ℕ → List Diagnostic → Option DiagnosticRequest → Option DiagnosticRequest
+replaceDiagnostics reading dialog xs none = unlessOver dialog reading xs
+replaceDiagnostics reading dialog xs (some r) = if eqb dialog (r .dialog) then some r else unlessOver dialog reading xs
+
+-- "A diagnostic frame holding type 0 (Cancel) ends that console's diagnostic request, leaves no new one, and comes before the equal-token
+-- rule"
+unfoldable pub takeDiagnostics : ℕ → Request → Option DiagnosticRequest → Option DiagnosticRequest
+takeDiagnostics reading q o =
+    if holdsCancel (diagnosticsOf q) then none
+    else replaceDiagnostics reading (q .dialog) (diagnosticsOf q) o
+
+-- ---- a report
+
+-- the report element of a diagnostic, by what its type decides; no request holds a Cancel
+unfoldable pub diagnosticReport : List ℕ → Diagnostic → Treatment → List ℕ
+diagnosticReport identity x Identity = reportElement Kind·Diagnostic (x .token) (x .ty) successful identity
+diagnosticReport identity x Incapable = reportElement Kind·Diagnostic (x .token) (x .ty) incapable []
+diagnosticReport identity x Cancel = reportElement Kind·Diagnostic (x .token) (x .ty) incapable []
+diagnosticReport identity x Report = reportElement Kind·Diagnostic (x .token) (x .ty) incapable []
+
+-- "Elements go in request order, a diagnostic one with one report."
+unfoldable pub nextDiagnostic : List ℕ → List Diagnostic → Option (Piece (List Diagnostic))
+nextDiagnostic identity [] = none
+nextDiagnostic identity (x ∷ xs) = some (record { octets = diagnosticReport identity x (diagnosticTreatment (x .ty)); rest = xs })

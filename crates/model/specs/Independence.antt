@@ -1,0 +1,79 @@
+-- Demand 3, document 01's "Console independence": each answer to a requester is what a newly set up station would give it, which no other
+-- requester ever spoke to. One claim about a list of calls as a whole; its proof is in proofs/Independence.antt.
+-- Assumes nothing.
+use Prim.Native.Nat.{ℕ}
+use mathlib.Core.Path.{_≡_}
+use mathlib.Core.Bool.{Bool, true, false}
+use mathlib.Core.List.{List, [], _∷_, _++_, map}
+use mathlib.Core.Option.{Option, none, some}
+use Rattle.laws.specs.Choice.{if_then_else_}
+use Rattle.octets.specs.Addresses.{same}
+use Rattle.model.specs.Model.{Address, Station, Call, clock, logging, frame, report, roam, change, Answer, accepted, nothing, written, refused}
+use Rattle.model.specs.Stations.{setup, readingOf, step}
+use Rattle.model.specs.Runs.{run, sender, Reply, reply, toSender}
+
+-- "each frame or report call of another sender replaced by a bare clock reading at the same counter value"; "calls not replaced keep
+-- their arguments, refused ones too"
+unfoldable pub quietFor : Address → Call → Option Address → Call
+quietFor s c none = c
+quietFor s c (some a) = if same a s then c else clock (readingOf c)
+
+abbrev pub quiet : Address → Call → Call
+quiet s c = quietFor s c (sender c)
+
+-- "the console list of the last accepted network change (or setup)", and "the later calls only"
+pub record Origin : Type 0 where
+  pub list : List Address
+  pub later : List Call
+
+abbrev pub from : List Address → Origin
+from l = record { list = l; later = [] }
+
+abbrev pub longer : Origin → Call → Origin
+longer o c = record { list = o .list; later = o .later ++ (c ∷ []) }
+
+unfoldable pub isAccepted : Answer → Bool
+isAccepted accepted = true
+isAccepted nothing = false
+isAccepted (written n) = false
+isAccepted (refused r) = false
+
+-- the origin after one more call, which was answered so
+unfoldable pub since : Origin → Call → Answer → Origin
+since o (change t l) a = if isAccepted a then from l else longer o (change t l)
+since o (clock t) a = longer o (clock t)
+since o (logging t e) a = longer o (logging t e)
+since o (frame t d s b) a = longer o (frame t d s b)
+since o (report t s k b) a = longer o (report t s k b)
+since o (roam t l) a = longer o (roam t l)
+
+-- what a newly set up station answers to the call c of a sender s: it has the identity i and the origin's list, and is run through the
+-- later calls
+unfoldable pub freshReply : List ℕ → Origin → Call → Address → Reply
+freshReply i o c s = reply (run (setup i (o .list) .station) (map (quiet s) (o .later))) c
+
+-- the answers to requesters in a list of calls on the station g, in order; none at a call without a sender
+unfoldable pub answers : Station → List Call → List (Option Reply)
+answers g [] = []
+answers g (c ∷ cs) = toSender (sender c) (λ s. reply g c) ∷ answers (step g c .station) cs
+
+-- the same list with each answer taken from a newly set up station; of the station g that the list runs on it only takes which network
+-- changes were accepted
+unfoldable pub freshAnswers : List ℕ → Origin → Station → List Call → List (Option Reply)
+freshAnswers i o g [] = []
+freshAnswers i o g (c ∷ cs) =
+    toSender (sender c) (freshReply i o c) ∷ freshAnswers i (since o c (step g c .answer)) (step g c .station) cs
+
+-- Demand 3: for every identity and list that setup was given, "accepted or refused", and every list of calls
+abbrev pub Independent : Type 0
+Independent = (i : List ℕ) (l : List Address) (cs : List Call) → answers (setup i l .station) cs ≡ freshAnswers i (from l) (setup i l .station) cs
+
+-- The same said of one call and those before it.
+unfoldable pub origin : Origin → Station → List Call → Origin
+origin o g [] = o
+origin o g (c ∷ cs) = origin (since o c (step g c .answer)) (step g c .station) cs
+
+abbrev pub IndependentCall : Type 0
+IndependentCall =
+    (i : List ℕ) (l : List Address) (earlier : List Call) (c : Call) (s : Address) → sender c ≡ some s
+    → reply (run (setup i l .station) earlier) c ≡ freshReply i (origin (from l) (setup i l .station) earlier) c s

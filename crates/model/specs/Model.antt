@@ -1,0 +1,76 @@
+-- The model of a station (document 01: a gate): lists and records without capacities, calls, answers.
+-- Assumes nothing.
+use Prim.Native.Nat.{ℕ}
+use mathlib.Core.List.{List}
+use mathlib.Core.Option.{Option}
+use Rattle.octets.specs.declared.numbers.Kind.{Kind}
+use Rattle.octets.specs.declared.refusals.Refusal.{Refusal}
+use Rattle.requests.specs.declared.Element.{Element}
+use Rattle.events.specs.declared.Entry.{Entry}
+use Rattle.events.specs.declared.Transition.{Transition}
+use Rattle.model.specs.declared.Diagnostic.{Diagnostic}
+
+-- "The log holds 64 events": its capacity
+abbrev pub logCapacity : ℕ
+logCapacity = 64
+
+-- "Setup names the identity and one to four consoles."
+abbrev pub requesterCapacity : ℕ
+requesterCapacity = 4
+
+-- six octets
+abbrev pub Address : Type 0
+Address = List ℕ
+
+-- an outstanding event request: its dialog token; how many places of the log, from the oldest, were logged before acceptance; its
+-- elements left; and of the front one how many events it gave, and where in the log the search for its next one starts
+pub record EventRequest : Type 0 where
+  pub dialog : ℕ
+  pub mark : ℕ
+  pub given : ℕ
+  pub start : ℕ
+  pub elements : List Element
+
+-- an outstanding diagnostic request: its dialog token, the reading of its acceptance, its unanswered elements
+pub record DiagnosticRequest : Type 0 where
+  pub dialog : ℕ
+  pub accepted : ℕ
+  pub elements : List Diagnostic
+
+-- "Each console has one event request and one diagnostic request at most."
+pub record Requester : Type 0 where
+  pub address : Address
+  pub events : Option EventRequest
+  pub diagnostics : Option DiagnosticRequest
+
+-- identity: none where setup was refused; log: oldest first
+pub record Station : Type 0 where
+  pub identity : Option (List ℕ)
+  pub log : List Entry
+  pub requesters : List Requester
+
+-- "Every call on a gate carries a reading": its first argument
+pub data Call : Type 0 where
+  -- a bare clock reading
+  clock : ℕ → Call
+  logging : ℕ → Transition → Call
+  -- destination, source, octets
+  frame : ℕ → Address → Address → List ℕ → Call
+  -- requester, kind, the lent buffer's octets at entry
+  report : ℕ → Address → Kind → List ℕ → Call
+  -- a move inside the network, a network change: the new requesters
+  roam : ℕ → List Address → Call
+  change : ℕ → List Address → Call
+
+-- "accepted", "nothing", length, or refusal number and place
+pub data Answer : Type 0 where
+  accepted : Answer
+  nothing : Answer
+  written : ℕ → Answer
+  refused : Refusal → Answer
+
+-- what a call gives: the station after it, the answer, and the lent buffer's octets afterwards ([] where none was lent)
+pub record Result : Type 0 where
+  pub station : Station
+  pub answer : Answer
+  pub buffer : List ℕ

@@ -1,0 +1,44 @@
+-- Requesters (document 01: consoles): the list that names them, and the one that an address finds.
+-- Assumes nothing.
+use mathlib.Core.Bool.{Bool, true, false, _||_}
+use mathlib.Core.List.{List, [], _∷_}
+use mathlib.Core.Option.{Option, none, some}
+use lib.Dec.{eqb, ltb}
+use lib.ListN.{length}
+use Rattle.laws.specs.Choice.{if_then_else_}
+use Rattle.octets.specs.Addresses.{same, isGroup}
+use Rattle.model.specs.Model.{Address, Requester, requesterCapacity}
+
+unfoldable pub holds : Address → List Address → Bool
+holds a [] = false
+holds a (b ∷ bs) = same a b || holds a bs
+
+unfoldable pub repeated : List Address → Bool
+repeated [] = false
+repeated (a ∷ l) = holds a l || repeated l
+
+unfoldable pub hasGroup : List Address → Bool
+hasGroup [] = false
+hasGroup (a ∷ l) = isGroup a || hasGroup l
+
+-- "Console list empty, over 4, repeated, or with a group address" (15)
+unfoldable pub badList : List Address → Bool
+badList l =
+    if eqb (length l) 0 then true
+    else if ltb requesterCapacity (length l) then true
+    else if repeated l then true
+    else hasGroup l
+
+-- a requester just named: it has no request
+unfoldable pub newRequester : Address → Requester
+newRequester a = record { address = a; events = none; diagnostics = none }
+
+-- the requester of an address: the first match
+unfoldable pub find : Address → List Requester → Option Requester
+find a [] = none
+find a (r ∷ rs) = if same a (r .address) then some r else find a rs
+
+-- x in the place of the requester that an address finds
+unfoldable pub put : Address → Requester → List Requester → List Requester
+put a x [] = []
+put a x (r ∷ rs) = if same a (r .address) then x ∷ rs else r ∷ put a x rs

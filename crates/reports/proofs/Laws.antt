@@ -1,0 +1,64 @@
+-- Laws of report elements: their lengths, and their parts.
+-- Assumes nothing.
+use Prim.Native.Nat.{ℕ, zero, suc, _+_, _≤_, min}
+use mathlib.Core.Path.{_≡_, refl, sym, ap, _∙_}
+use mathlib.Core.List.{List, [], _∷_, _++_, append-nil}
+use native.Mathlib.Nat.{zero-add, zero-min, min-zero, suc-min-suc}
+use native.Mathlib.Omega.{arith}
+use lib.ListN.{length, take, drop, length-append}
+use Rattle.laws.specs.Buffers.{onto, Written, wrote, putFront, putAt}
+use Rattle.laws.proofs.Buffers.{Putting, putting-start, putting-at, putting-done, putting-end, put-front-fits}
+use Rattle.octets.specs.declared.numbers.Kind.{Kind}
+use Rattle.octets.specs.declared.numbers.Kind.the-variants.{Event, Diagnostic}
+use Rattle.octets.specs.Numbers.{successful}
+use Rattle.events.specs.declared.Entry.{Entry}
+use Rattle.reports.specs.Reports.{reportElement, eventElement, reportHead}
+
+-- ---- general: writing at the front; all has been written; a count clamped to the length takes the same
+
+pub put-at-front : (o s : List ℕ) → putAt o 0 s ≡ putFront o s
+unfolding putAt putFront
+put-at-front o s = rw (zero-add (length o))
+
+pub put-whole : {whole s y : List ℕ} {n : ℕ} → Putting whole s y n [] → wrote n y ≡ putFront whole s
+put-whole {whole} {s} {y} {n} p =
+    rw (putting-end p refl, putting-done p refl) (sym (put-front-fits whole s (p .fits)))
+
+pub take-clamped : (k : ℕ) (l : List ℕ) → take (min k (length l)) l ≡ take k l
+take-clamped zero l = rw (zero-min (length l))
+take-clamped (suc k) [] = rw (min-zero (suc k))
+take-clamped (suc k) (x ∷ xs) = rw (suc-min-suc k (length xs)) (ap (λ (r : List ℕ). x ∷ r) (take-clamped k xs))
+
+-- writers of parts, one behind the other, write the whole
+module _ (whole s : List ℕ) (fits : length whole ≤ length s) (a r : List ℕ) (split : whole ≡ a ++ r) (n : ℕ) (y : List ℕ) (put : wrote n y ≡ putAt a 0 s) where
+  first-part : Putting whole s y n r
+  first-part = putting-at (putting-start whole s fits) a r split n y put
+
+  pub put-two : (m : ℕ) (z : List ℕ) → wrote m z ≡ putAt r n y → wrote m z ≡ putFront whole s
+  put-two m z p = put-whole (putting-at first-part r [] (sym (append-nil r)) m z p)
+
+  pub put-three : (b d : List ℕ) → r ≡ b ++ d → (m : ℕ) (z : List ℕ) → wrote m z ≡ putAt b n y → (k : ℕ) (x : List ℕ) → wrote k x ≡ putAt d m z → wrote k x ≡ putFront whole s
+  put-three b d e m z p k x q = put-whole (putting-at (putting-at first-part b d e m z p) d [] (sym (append-nil d)) k x q)
+
+-- ---- the parts of an element
+
+module _ (kind : Kind) (token ty status : ℕ) (rest : List ℕ) where
+  pub element-parts : reportElement kind token ty status rest ≡ reportHead kind token ty status (length rest) ++ rest
+  unfolding reportElement
+  element-parts = let n : suc (suc (suc (length rest))) ≡ 3 + length rest = omega arith in rw n
+
+  pub element-length : length (reportElement kind token ty status rest) ≡ 5 + length rest
+  unfolding reportElement
+  element-length = omega arith
+
+module _ (token : ℕ) (entry : Entry) (t : length (entry .time) ≡ 9) (b : length (entry .body) ≡ 21) where
+  rest-length : length (entry .time ++ entry .body) ≡ 30
+  rest-length = length-append (entry .time) (entry .body) ∙ omega arith
+
+  pub event-parts : eventElement token entry ≡ reportHead Event token (entry .ty) successful 30 ++ (entry .time ++ entry .body)
+  unfolding eventElement
+  event-parts = element-parts Event token (entry .ty) successful (entry .time ++ entry .body) ∙ rw rest-length
+
+  pub event-length : length (eventElement token entry) ≡ 35
+  unfolding eventElement
+  event-length = element-length Event token (entry .ty) successful (entry .time ++ entry .body) ∙ omega (arith, rest-length)

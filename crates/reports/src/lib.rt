@@ -1,0 +1,91 @@
+// Report elements, written (document 01, "Frames and elements"): each is put whole at the front of
+// the part of a report buffer that is lent, or not at all.
+use events::Entry;
+use octets::Kind;
+use octets::numbers;
+use octets::put;
+ghost use mathlib.Core.Path.{_≡_};
+ghost use mathlib.Core.List.{[]};
+ghost use Prim.Native.Nat.{_≤_, min};
+ghost use lib.ListN.{length, take};
+ghost use Rattle.laws.specs.Buffers.{wrote, putFront};
+ghost use Rattle.reports.specs.Reports.{reportHead, reportElement, eventElement};
+
+// The longest list behind token, type and status.
+const LONGEST_LIST: usize = 252;
+
+fn least(a: usize, b: usize) -> usize
+    ensures { λ r. ⌜ r ≡ min a b ⌝ }
+{
+    if a <= b { a } else { b }
+}
+
+// The octets of a report element up to its status, with so many octets behind them.
+fn head_of(kind: Kind, token: u8, ty: u8, status: u8, rest: usize) -> [u8; 5]
+    requires { ⌜ rest ≤ 252 ⌝ }
+    ensures { λ r. ⌜ r ≡ reportHead kind token ty status rest ⌝ }
+{
+    let id = kind.report_id();
+    let length = (3 + rest) as u8;
+    [id, length, token, ty, status]
+}
+
+// A report of length 3: Successful with no event, or Incapable.
+pub fn put_plain(buf: &mut [u8], kind: Kind, token: u8, ty: u8, status: u8) -> usize
+    ensures { λ r. ⌜ wrote r (now (buf .exit)) ≡ putFront (reportElement kind token ty status []) (now (buf .entry)) ⌝ }
+{
+    let head = head_of(kind, token, ty, status, 0);
+    put(buf, 0, &head)
+}
+
+// A Successful report with an event: its time and its body.
+pub fn put_event(buf: &mut [u8], token: u8, entry: Entry) -> usize
+    ensures { λ r. ⌜ wrote r (now (buf .exit)) ≡ putFront (eventElement token entry) (now (buf .entry)) ⌝ }
+{
+    if buf.len() < 35 {
+        return 0;
+    }
+    let head = head_of(Kind::Event, token, entry.ty, numbers::SUCCESSFUL, 30);
+    let time = entry.time;
+    let body = entry.body;
+    let behind_head = put(buf, 0, &head);
+    let behind_time = put(buf, behind_head, &time);
+    put(buf, behind_time, &body)
+}
+
+// A report with the first n octets of a list behind its status.
+fn put_rest(
+    buf: &mut [u8],
+    kind: Kind,
+    token: u8,
+    ty: u8,
+    status: u8,
+    list: &[u8],
+    n: usize,
+) -> usize
+    requires { ⌜ (n ≤ 252) × (n ≤ length (now list)) ⌝ }
+    ensures { λ r. ⌜ wrote r (now (buf .exit)) ≡ putFront (reportElement kind token ty status (take n (now (list .entry)))) (now (buf .entry)) ⌝ }
+{
+    if buf.len() < 5 + n {
+        return 0;
+    }
+    let head = head_of(kind, token, ty, status, n);
+    let behind_head = put(buf, 0, &head);
+    put(buf, behind_head, &list[..n])
+}
+
+// A report with a list behind its status: len octets, at most 252 (a diagnostic's subelements).
+pub fn put_list(
+    buf: &mut [u8],
+    kind: Kind,
+    token: u8,
+    ty: u8,
+    status: u8,
+    list: &[u8; 252],
+    len: usize,
+) -> usize
+    ensures { λ r. ⌜ wrote r (now (buf .exit)) ≡ putFront (reportElement kind token ty status (take len (now (list .entry)))) (now (buf .entry)) ⌝ }
+{
+    let n = least(len, LONGEST_LIST);
+    put_rest(buf, kind, token, ty, status, list, n)
+}

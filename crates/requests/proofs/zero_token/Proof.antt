@@ -1,0 +1,20 @@
+-- `requests::zero_token` meets its contract.
+-- Assumes nothing.
+use borrow.Author.Needs.{needs}
+use Rattle.requests.proofs.zero_token.Statement.{statement}
+use Rattle.requests.proofs.zero_token.Tie as tie
+
+enum-told : tie.Need-enum-told
+enum-told c = search needs
+
+enum-told-2 : tie.Need-enum-told-2
+enum-told-2 c = search needs
+
+returns : tie.Need-returns
+returns c = rw (c .enum-told .given .1)
+
+returns-2 : tie.Need-returns-2
+returns-2 c = search needs
+
+pub zero-token-spec : {M : Type 1} → statement M
+zero-token-spec = tie.close (tie.spec enum-told enum-told-2 returns returns-2)

@@ -1,4 +1,0 @@
-pub mod Seen
-pub mod Independence
-pub mod StationLaws
-pub mod Cases
