@@ -1,0 +1,5 @@
+pub mod Shapes
+pub mod Lengths
+pub mod ConditionsBack
+pub mod ElementsBack
+pub mod RoundTrip

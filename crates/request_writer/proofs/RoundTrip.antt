@@ -1,0 +1,104 @@
+-- What the writer writes, the reader reads to the same fields, for every input that the writer accepts.
+-- Assumes nothing.
+use Prim.Native.Nat.{ℕ, _+_, _*_, _≤_, _<_}
+use mathlib.Core.Path.{_≡_, refl, sym, ap, _∙_}
+use mathlib.Core.Bool.{Bool, true, false, not}
+use mathlib.Core.List.{List, [], _∷_, _++_}
+use lib.ListN.{length, take, drop, length-take}
+use lib.Seq.{take-append-seam}
+use lib.Dec.{ltb, eqb}
+use borrow.Author.Tests.{le-ltb, eq-eqb, ne-eqb, eqb-true, eqb-false, ltb-false, not-true, not-false}
+use native.Mathlib.Omega.{arith}
+use Rattle.laws.specs.Choice.{if_then_else_}
+use Rattle.laws.specs.Buffers.{onto}
+use Rattle.laws.proofs.Choice.{either}
+use Rattle.laws.proofs.Walk.{start}
+use Rattle.octets.specs.declared.numbers.Kind.{Kind}
+use Rattle.octets.specs.declared.numbers.Kind.the-variants.{Event, Diagnostic}
+use Rattle.octets.specs.Numbers.{requestAction}
+use Rattle.requests.specs.declared.Element.{Element}
+use Rattle.requests.specs.Elements.{walkElements}
+use Rattle.requests.specs.Requests.{lacksElement, requestOf, readKind, readRequest}
+use Rattle.requests.proofs.Found.{All}
+use Rattle.request_writer.specs.declared.Written.{Written}
+use Rattle.request_writer.specs.Frames.{elementsOctets, frameOctets}
+use Rattle.request_writer.specs.Writer.{placeBehind, tokenRefusal, elementsAnswer, frameAnswer, writeAnswer, writeOctets}
+use Rattle.request_writer.specs.ReadBack.{readBack}
+use Rattle.request_writer.proofs.Shapes.{Shaped, all-take}
+use Rattle.request_writer.proofs.Lengths.{elements-length}
+use Rattle.request_writer.proofs.ElementsBack.{atElements, elements-back}
+
+-- what an accepted call says of its arguments and its answer
+pub record Accepted (kind : Kind) (dialog : ℕ) (es : List Element) (count room : ℕ) (w : Written) : Type 0 where
+  pub fits : 267 ≤ room
+  pub dialog-token : eqb dialog 0 ≡ false
+  pub tokens : tokenRefusal kind [] (take count es) .number ≡ 0
+  pub few : count ≤ 8
+  pub some : lacksElement kind count ≡ false
+  pub ends : w .length ≡ placeBehind kind (take count es)
+
+module _ (kind : Kind) (dialog : ℕ) (es : List Element) (count room : ℕ) where
+  Accepting : Written → Type 0
+  Accepting w = w .refusal .number ≡ 0 → Accepted kind dialog es count room w
+
+  pub accepted : writeAnswer kind dialog es count room .refusal .number ≡ 0 → Accepted kind dialog es count room (writeAnswer kind dialog es count room)
+  unfolding writeAnswer frameAnswer elementsAnswer Accepting
+  accepted =
+      either Accepting _ _ _ (λ _ z. absurd (omega arith))
+      (λ fits. either Accepting _ _ _ (λ _ z. absurd (omega arith))
+      (λ some. either Accepting _ _ _ (λ b z. absurd (eqb-false _ 0 (not-true _ b) z))
+      (λ ok. either Accepting _ _ _ (λ _ z. absurd (omega arith))
+      (λ d. elements-accepted (ltb-false _ _ fits) some d))))
+    where
+      elements-accepted : 267 ≤ room → eqb dialog 0 ≡ false → lacksElement kind count ≡ false → Accepting (elementsAnswer kind es count)
+      elements-accepted fits some d =
+          either Accepting _ _ _ (λ b z. absurd (eqb-false _ 0 (not-true _ b) z))
+          (λ ok. either Accepting _ _ _ (λ _ z. absurd (omega arith))
+          (λ few _. record { fits = fits; dialog-token = some; tokens = eqb-true _ _ (not-false _ ok); few = ltb-false _ _ few; some = d; ends = refl }))
+
+module _ (kind : Kind) (dialog : ℕ) (es : List Element) (count : ℕ) (s : List ℕ) (eight : length es ≡ 8) (shapes : All Shaped es)
+    (ok : writeAnswer kind dialog es count (length s) .refusal .number ≡ 0) where
+  abbrev pub frame : List ℕ
+  frame = frameOctets kind dialog (take count es)
+
+  a : Accepted kind dialog es count (length s) (writeAnswer kind dialog es count (length s))
+  a = accepted kind dialog es count (length s) ok
+
+  asked-length : length (take count es) ≡ count
+  asked-length = length-take count es ∙ omega (arith, a .few)
+
+  walk-back : walkElements frame kind ≡ atElements (length frame) count (readBack kind dialog es count .elements)
+  unfolding frameOctets walkElements readBack
+  walk-back =
+      elements-back kind frame (walkElements frame kind) (take count es) [] 3 0 (all-take count es shapes) refl (omega (arith, asked-length, a .few)) (a .tokens) refl (omega arith)
+      (start _ _ (length frame) _ _ (omega arith))
+      ∙ rw asked-length
+
+  -- the answer is the frame's length, at most 267
+  pub frame-length : writeAnswer kind dialog es count (length s) .length ≡ length frame
+  unfolding frameOctets
+  frame-length = a .ends
+
+  pub frame-fits : length frame ≤ 267
+  unfolding frameOctets
+  frame-fits = omega (arith, elements-length kind 0 (take count es) (all-take count es shapes), asked-length, a .few)
+
+  pub frame-written : take (writeAnswer kind dialog es count (length s) .length) (writeOctets kind dialog es count s) ≡ frame
+  unfolding writeOctets if_then_else_
+  frame-written = rw (frame-length, eq-eqb _ 0 ok) (take-append-seam frame (drop (length frame) s))
+
+  kind-read : readKind frame kind ≡ readBack kind dialog es count
+  unfolding readKind requestOf frameOctets readBack if_then_else_
+  kind-read = rw (a .dialog-token, walk-back, a .some)
+
+  frame-read : readRequest frame ≡ readBack kind dialog es count
+  unfolding readRequest frameOctets if_then_else_
+  frame-read = rw (le-ltb 2304 (length frame) (omega (arith, frame-fits))) (by kind kind-read)
+    where
+      by : (k : Kind) → readKind frame k ≡ readBack kind dialog es count
+          → (if eqb (requestAction k) 0 then readKind frame Event else if eqb (requestAction k) 2 then readKind frame Diagnostic else readRequest []) ≡ readBack kind dialog es count
+      by Event e = e
+      by Diagnostic e = e
+
+  pub round-trip : readRequest (take (writeAnswer kind dialog es count (length s) .length) (writeOctets kind dialog es count s)) ≡ readBack kind dialog es count
+  round-trip = rw frame-written frame-read
