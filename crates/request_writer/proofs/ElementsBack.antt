@@ -4,7 +4,7 @@ use Prim.Native.Nat.{ℕ, suc, _+_, _-_, _≤_, _<_}
 use mathlib.Core.Path.{_≡_, refl, sym, ap, _∙_}
 use mathlib.Core.Bool.{Bool, true, false, not}
 use mathlib.Core.List.{List, [], _∷_, _++_, append-assoc, append-nil, map, map-append}
-use lib.ListN.{length, take, drop, set, length-append, length-map}
+use lib.ListN.{length, getD, take, drop, set, length-append, length-map}
 use lib.Seq.{take-at}
 use lib.Dec.{eqb}
 use borrow.Author.Tests.{le-ltb, lt-leb, eq-eqb, ne-eqb}
@@ -40,6 +40,10 @@ use Rattle.request_writer.proofs.ConditionsBack.{atSubelements, conditi
 abbrev pub atElements : ℕ → ℕ → List Element → Elements
 atElements at n es = record { refusal = noRefusal; at = at; count = n; elements = es }
 
+head-length : (kind : Kind) (e : Element) → 2 ≤ length (elementOctets kind e)
+unfolding elementOctets
+head-length kind e = omega arith
+
 -- ---- one element that stands at a position
 
 no-subelements : (s : List ℕ) (known end : ℕ) → walk s known end end ≡ atSubelements end 0 noFilter
@@ -52,17 +56,17 @@ module _ (s : List ℕ) (at : ℕ) (e : Element) (r : List ℕ) where
 
   token-at : (kind : Kind) → Stands kind → getD s (at + 2) 0 ≡ e .token
   unfolding elementOctets elementBody
-  token-at Event h = stands-at s at _ r h 2 0
-  token-at Diagnostic h = stands-at s at _ r h 2 0
+  token-at Event h = stands-at s at (elementOctets Event e) r h 2 0
+  token-at Diagnostic h = stands-at s at (elementOctets Diagnostic e) r h 2 0
 
   type-at : (kind : Kind) → Stands kind → getD s (at + 3) 0 ≡ e .ty
   unfolding elementOctets elementBody
-  type-at Event h = stands-at s at _ r h 3 0
-  type-at Diagnostic h = stands-at s at _ r h 3 0
+  type-at Event h = stands-at s at (elementOctets Event e) r h 3 0
+  type-at Diagnostic h = stands-at s at (elementOctets Diagnostic e) r h 3 0
 
   limit-back : (kind : Kind) → Stands kind → limitAt s kind at ≡ readElement kind e .limit
   unfolding elementOctets elementBody readElement
-  limit-back Event h = stands-at s at _ r h 4 0
+  limit-back Event h = stands-at s at (elementOctets Event e) r h 4 0
   limit-back Diagnostic h = refl
 
   timeout-back : (kind : Kind) → Stands kind → timeoutAt s kind at ≡ readElement kind e .timeout
@@ -98,10 +102,17 @@ module _ (s : List ℕ) (at : ℕ) (e : Element) (r : List ℕ) where
   body-least Event = omega arith
   body-least Diagnostic = omega arith
 
-  fields-back : (kind : Kind) → Stands kind → readElement kind e .token ≡ e .token
+  fields-back : (kind : Kind) → record {
+    token = e .token;
+    ty = e .ty;
+    limit = readElement kind e .limit;
+    subs = readElement kind e .subs;
+    timeout = readElement kind e .timeout;
+    filter = readElement kind e .filter;
+  } ≡ readElement kind e
   unfolding readElement
-  fields-back Event h = refl
-  fields-back Diagnostic h = refl
+  fields-back Event = refl
+  fields-back Diagnostic = refl
 
   -- one step over it
   step-back : (kind : Kind) (n : ℕ) (es : List Element) → Stands kind → Shaped e → n < 8 → badToken kind (take n es) (e .token) ≡ false
@@ -127,13 +138,7 @@ module _ (s : List ℕ) (at : ℕ) (e : Element) (r : List ℕ) where
         timeout-back kind h,
         p,
       )
-      (whole kind)
-    where
-      whole : (kind : Kind) → atElements (at + length (elementOctets kind e)) (n + 1)
-          (set es n (record { token = e .token; ty = e .ty; limit = readElement kind e .limit; subs = readElement kind e .subs; timeout = readElement kind e .timeout; filter = readElement kind e .filter }))
-          ≡ atElements (at + length (elementOctets kind e)) (n + 1) (set es n (readElement kind e))
-      whole Event = refl
-      whole Diagnostic = refl
+      (rw (fields-back kind))
 
 -- ---- tokens
 
@@ -184,7 +189,7 @@ module _ (kind : Kind) (s : List ℕ) (whole : Elements) where
       let o : List ℕ = elementOctets kind x in
       let rest : List ℕ = octetsFrom (suc n) es in
       let lo = length-append o rest in
-      let lx : 2 ≤ length o = long kind x in
+      let lx = head-length kind x in
       let a = accepts kind front x es ok in
       let front₁ : List Element = front ++ (x ∷ []) in
       let filled = fill-next (map (readElement kind) front) blankElements pastElements n (length-map front (readElement kind) ∙ e) (omega arith) (readElement kind x) in
@@ -196,6 +201,3 @@ module _ (kind : Kind) (s : List ℕ) (whole : Elements) where
       (stands-behind s at o rest h (at + length o) refl) (omega arith)
       (again _ left (go-on 0 at (length s) refl (omega arith)) (omega arith) (sym stepped))
       ∙ rw (m, append-assoc front (x ∷ []) es)
-    where
-      long : (kind : Kind) (x : Element) → 2 ≤ length (elementOctets kind x)
-      long kind x = omega arith

@@ -7,7 +7,7 @@ use mathlib.Core.List.{List, [], _∷_, _++_, append-assoc, append-nil}
 use lib.ListN.{length, getD, take, length-append, length-take}
 use lib.Dec.{eqb}
 use native.Mathlib.Omega.{arith}
-use native.Mathlib.Nat.{add-zero, add-suc}
+use native.Mathlib.Nat.{zero-add}
 use Rattle.laws.specs.Choice.{if_then_else_}
 use Rattle.laws.specs.Buffers.{pieces}
 use Rattle.laws.proofs.Choice.{either}
@@ -57,7 +57,7 @@ conditions-length (c ∷ cs) id e =
 
 pub filter-length : (filter : List Condition) → length filter ≡ 5 → length (filterOctets filter) ≤ 28
 unfolding room
-filter-length filter five = conditions-length filter 0 five
+filter-length filter five = conditions-length filter 0 (zero-add (length filter) ∙ five)
 
 -- ---- elements
 

@@ -3,3 +3,4 @@ pub mod Lengths
 pub mod ConditionsBack
 pub mod ElementsBack
 pub mod RoundTrip
+pub mod Writing

@@ -8,6 +8,7 @@ use lib.ListN.{length, take, drop, length-take}
 use lib.Seq.{take-append-seam}
 use lib.Dec.{ltb, eqb}
 use borrow.Author.Tests.{le-ltb, eq-eqb, ne-eqb, eqb-true, eqb-false, ltb-false, not-true, not-false}
+use native.Mathlib.Nat.{zero-add}
 use native.Mathlib.Omega.{arith}
 use Rattle.laws.specs.Choice.{if_then_else_}
 use Rattle.laws.specs.Buffers.{onto}
@@ -15,14 +16,16 @@ use Rattle.laws.proofs.Choice.{either}
 use Rattle.laws.proofs.Walk.{start}
 use Rattle.octets.specs.declared.numbers.Kind.{Kind}
 use Rattle.octets.specs.declared.numbers.Kind.the-variants.{Event, Diagnostic}
+use Rattle.octets.specs.declared.refusals.Refusal.{Refusal}
+use Rattle.octets.specs.Refusals.{frameHeader, ninthElement, noElement}
 use Rattle.octets.specs.Numbers.{requestAction}
 use Rattle.requests.specs.declared.Element.{Element}
 use Rattle.requests.specs.Elements.{walkElements}
-use Rattle.requests.specs.Requests.{lacksElement, requestOf, readKind, readRequest}
+use Rattle.requests.specs.Requests.{refusedRequest, lacksElement, requestOf, readKind, readRequest}
 use Rattle.requests.proofs.Found.{All}
 use Rattle.request_writer.specs.declared.Written.{Written}
 use Rattle.request_writer.specs.Frames.{elementsOctets, frameOctets}
-use Rattle.request_writer.specs.Writer.{placeBehind, tokenRefusal, elementsAnswer, frameAnswer, writeAnswer, writeOctets}
+use Rattle.request_writer.specs.Writer.{placeBehind, refusedWritten, writtenLength, tokenRefusal, elementsAnswer, frameAnswer, writeAnswer, writeOctets}
 use Rattle.request_writer.specs.ReadBack.{readBack}
 use Rattle.request_writer.proofs.Shapes.{Shaped, all-take}
 use Rattle.request_writer.proofs.Lengths.{elements-length}
@@ -37,24 +40,43 @@ pub record Accepted (kind : Kind) (dialog : ℕ) (es : List Element) (count room
   pub some : lacksElement kind count ≡ false
   pub ends : w .length ≡ placeBehind kind (take count es)
 
-module _ (kind : Kind) (dialog : ℕ) (es : List Element) (count room : ℕ) where
-  Accepting : Written → Type 0
-  Accepting w = w .refusal .number ≡ 0 → Accepted kind dialog es count room w
+module _ (kind : Kind) (es : List Element) (count : ℕ) where
+  pub record Elements (w : Written) : Type 0 where
+    pub tokens : tokenRefusal kind [] (take count es) .number ≡ 0
+    pub few : count ≤ 8
+    pub ends : w .length ≡ placeBehind kind (take count es)
 
-  pub accepted : writeAnswer kind dialog es count room .refusal .number ≡ 0 → Accepted kind dialog es count room (writeAnswer kind dialog es count room)
-  unfolding writeAnswer frameAnswer elementsAnswer Accepting
-  accepted =
-      either Accepting _ _ _ (λ _ z. absurd (omega arith))
-      (λ fits. either Accepting _ _ _ (λ _ z. absurd (omega arith))
-      (λ some. either Accepting _ _ _ (λ b z. absurd (eqb-false _ 0 (not-true _ b) z))
-      (λ ok. either Accepting _ _ _ (λ _ z. absurd (omega arith))
-      (λ d. elements-accepted (ltb-false _ _ fits) some d))))
-    where
-      elements-accepted : 267 ≤ room → eqb dialog 0 ≡ false → lacksElement kind count ≡ false → Accepting (elementsAnswer kind es count)
-      elements-accepted fits some d =
-          either Accepting _ _ _ (λ b z. absurd (eqb-false _ 0 (not-true _ b) z))
-          (λ ok. either Accepting _ _ _ (λ _ z. absurd (omega arith))
-          (λ few _. record { fits = fits; dialog-token = some; tokens = eqb-true _ _ (not-false _ ok); few = ltb-false _ _ few; some = d; ends = refl }))
+  pub elements-accepted : elementsAnswer kind es count .refusal .number ≡ 0 → Elements (elementsAnswer kind es count)
+  unfolding elementsAnswer
+  elements-accepted =
+      let P : Written → Type 0 = λ (w : Written). w .refusal .number ≡ 0 → Elements w in
+      let bad : Refusal = tokenRefusal kind [] (take count es) in
+      either P (not (eqb (bad .number) 0)) (refusedWritten (bad .number) (bad .place)) _ (λ b z. absurd (eqb-false _ 0 (not-true _ b) z))
+      (λ ok. either P (ltb 8 count) (refusedWritten ninthElement (placeBehind kind es)) (writtenLength (placeBehind kind (take count es))) (λ _ z. absurd (omega arith))
+      (λ few _. record { tokens = eqb-true _ _ (not-false _ ok); few = ltb-false _ _ few; ends = refl }))
+
+  pub record Framed (w r : Written) : Type 0 where
+    pub same : r ≡ w
+    pub some : lacksElement kind count ≡ false
+
+  pub frame-accepted : (w : Written) → frameAnswer kind count w .refusal .number ≡ 0 → Framed w (frameAnswer kind count w)
+  unfolding frameAnswer
+  frame-accepted w =
+      let P : Written → Type 0 = λ (r : Written). r .refusal .number ≡ 0 → Framed w r in
+      either P (not (eqb (w .refusal .number) 0)) w _ (λ b z. absurd (eqb-false _ 0 (not-true _ b) z))
+      (λ _. either P (lacksElement kind count) (refusedWritten noElement 0) w (λ _ z. absurd (omega arith)) (λ d _. record { same = refl; some = d }))
+
+  module _ (dialog room : ℕ) where
+    pub accepted : writeAnswer kind dialog es count room .refusal .number ≡ 0 → Accepted kind dialog es count room (writeAnswer kind dialog es count room)
+    unfolding writeAnswer
+    accepted =
+        let P : Written → Type 0 = λ (w : Written). w .refusal .number ≡ 0 → Accepted kind dialog es count room w in
+        either P _ _ _ (λ _ z. absurd (omega arith))
+        (λ fits. either P _ _ _ (λ _ z. absurd (omega arith))
+        (λ token z.
+        let f = frame-accepted (elementsAnswer kind es count) z in
+        let e = elements-accepted (rw (f .same) at z) in
+        record { fits = ltb-false _ _ fits; dialog-token = token; tokens = e .tokens; few = e .few; some = f .some; ends = ap (λ (w : Written). w .length) (f .same) ∙ e .ends }))
 
 module _ (kind : Kind) (dialog : ℕ) (es : List Element) (count : ℕ) (s : List ℕ) (eight : length es ≡ 8) (shapes : All Shaped es)
     (ok : writeAnswer kind dialog es count (length s) .refusal .number ≡ 0) where
@@ -62,7 +84,7 @@ module _ (kind : Kind) (dialog : ℕ) (es : List Element) (count : ℕ) (s : Lis
   frame = frameOctets kind dialog (take count es)
 
   a : Accepted kind dialog es count (length s) (writeAnswer kind dialog es count (length s))
-  a = accepted kind dialog es count (length s) ok
+  a = accepted kind es count dialog (length s) ok
 
   asked-length : length (take count es) ≡ count
   asked-length = length-take count es ∙ omega (arith, a .few)
@@ -72,12 +94,12 @@ module _ (kind : Kind) (dialog : ℕ) (es : List Element) (count : ℕ) (s : Lis
   walk-back =
       elements-back kind frame (walkElements frame kind) (take count es) [] 3 0 (all-take count es shapes) refl (omega (arith, asked-length, a .few)) (a .tokens) refl (omega arith)
       (start _ _ (length frame) _ _ (omega arith))
-      ∙ rw asked-length
+      ∙ rw (asked-length, zero-add count)
 
   -- the answer is the frame's length, at most 267
   pub frame-length : writeAnswer kind dialog es count (length s) .length ≡ length frame
   unfolding frameOctets
-  frame-length = a .ends
+  frame-length = a .ends ∙ omega arith
 
   pub frame-fits : length frame ≤ 267
   unfolding frameOctets
@@ -93,10 +115,10 @@ module _ (kind : Kind) (dialog : ℕ) (es : List Element) (count : ℕ) (s : Lis
 
   frame-read : readRequest frame ≡ readBack kind dialog es count
   unfolding readRequest frameOctets if_then_else_
-  frame-read = rw (le-ltb 2304 (length frame) (omega (arith, frame-fits))) (by kind kind-read)
+  frame-read = rw (le-ltb (length frame) 3 (omega arith), le-ltb 2304 (length frame) (omega (arith, frame-fits))) (by kind kind-read)
     where
       by : (k : Kind) → readKind frame k ≡ readBack kind dialog es count
-          → (if eqb (requestAction k) 0 then readKind frame Event else if eqb (requestAction k) 2 then readKind frame Diagnostic else readRequest []) ≡ readBack kind dialog es count
+          → (if eqb (requestAction k) 0 then readKind frame Event else if eqb (requestAction k) 2 then readKind frame Diagnostic else refusedRequest frameHeader 0) ≡ readBack kind dialog es count
       by Event e = e
       by Diagnostic e = e
 

@@ -41,6 +41,10 @@ pub and-first : (a b : Bool) → (a && b) ≡ true → a ≡ true
 and-first true b e = refl
 and-first false b e = e
 
+-- what is left of the first n elements from i on, is the i-th and those behind it
+pub take-next : {A : Type 0} (xs : List A) (d : A) (n i : ℕ) → i < n → i < length xs → drop i (take n xs) ≡ getD xs i d ∷ drop (i + 1) (take n xs)
+take-next xs d n i h k = rw add-one (drop-cons (take n xs) i d (omega (arith, length-take n xs)) ∙ rw (getD-take n xs i d h))
+
 -- ---- the number of subelements: an element of at most 255 octets has fewer than 256
 
 module _ (s : List ℕ) (known from end : ℕ) where
@@ -83,17 +87,13 @@ subelements-few s Diagnostic at end h = omega (arith, walk-few s 0 (at + 6) end)
 
 module _ (es : List Element) (n token i : ℕ) where
   module _ (h : i < n) (k : i < length es) where
-    next-token : drop i (take n es) ≡ getD es i pastElements ∷ drop (i + 1) (take n es)
-    next-token =
-        rw add-one (drop-cons (take n es) i pastElements (omega (arith, length-take n es)) ∙ rw (getD-take n es i pastElements h))
-
     pub token-found : getD es i pastElements .token ≡ token → hasToken (drop i (take n es)) token ≡ true
     unfolding hasToken if_then_else_
-    token-found e = rw (next-token, eq-eqb _ token e)
+    token-found e = rw (take-next es pastElements n i h k, eq-eqb _ token e)
 
     pub token-next : (getD es i pastElements .token ≡ token → ⊥) → hasToken (drop i (take n es)) token ≡ hasToken (drop (i + 1) (take n es)) token
     unfolding hasToken if_then_else_
-    token-next e = rw (next-token, ne-eqb _ token e)
+    token-next e = rw (take-next es pastElements n i h k, ne-eqb _ token e)
 
   pub token-none : length (take n es) ≤ i → hasToken (drop i (take n es)) token ≡ false
   unfolding hasToken

@@ -1,30 +1,29 @@
+-- `request_writer::frame_answer` meets its contract.
+-- Assumes nothing.
+use borrow.Author.Tests.{eq-eqb, ne-eqb}
+use Rattle.laws.specs.Choice.{if_then_else_}
+use Rattle.request_writer.specs.Writer.{frameAnswer}
 use borrow.Author.Needs.{needs}
 use Rattle.request_writer.proofs.frame_answer.Statement.{statement}
 use Rattle.request_writer.proofs.frame_answer.Tie as tie
-use Rattle.request_writer.proofs.frame_answer.Reads as reads
-use Rattle.request_writer.proofs.frame_answer.Lts as lts
-use Rattle.request_writer.proofs.refused.Reads as refused-reads
-use Rattle.requests.proofs.lacks_element.Reads as lacks-element-reads
 
--- src/lib.rt:165:9
 returns : tie.Need-returns
-returns c = ?
+unfolding frameAnswer if_then_else_
+returns c = rw (ne-eqb _ _ (c .if1 .taken))
 
--- src/lib.rt:167:8
 lacks-element-requires : tie.Need-lacks-element-requires
 lacks-element-requires c κs = search needs
 
--- src/lib.rt:168:9
 refused-requires : tie.Need-refused-requires
 refused-requires c κs = search needs
 
--- src/lib.rt:168:9
 returns-2 : tie.Need-returns-2
-returns-2 c = ?
+unfolding frameAnswer if_then_else_
+returns-2 c = rw (eq-eqb _ _ (c .before .before .before .if1 .left), ← c .before .before .lacks-element .ensures, c .before .if2 .taken) (c .refused .ensures)
 
--- src/lib.rt:161:1
 returns-3 : tie.Need-returns-3
-returns-3 c = ?
+unfolding frameAnswer if_then_else_
+returns-3 c = rw (eq-eqb _ _ (c .before .before .if1 .left), ← c .before .lacks-element .ensures, c .if2 .left)
 
 pub frame-answer-spec : {M : Type 1} → statement M
 frame-answer-spec =

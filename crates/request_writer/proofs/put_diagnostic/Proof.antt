@@ -1,40 +1,39 @@
+-- `request_writer::put_diagnostic` meets its contract.
+-- Assumes nothing.
+use mathlib.Core.Path.{_≡_, sym, ap, _∙_}
+use mathlib.Core.List.{List, [], _∷_}
+use Prim.Native.Nat.{ℕ}
+use native.Mathlib.Omega.{arith}
+use lib.ListN.{length}
+use Rattle.laws.proofs.Buffers.{copied}
+use Rattle.request_writer.proofs.Writing.{diagnostic-octets}
 use borrow.Author.Needs.{needs}
 use Rattle.request_writer.proofs.put_diagnostic.Statement.{statement}
 use Rattle.request_writer.proofs.put_diagnostic.Tie as tie
-use Rattle.request_writer.proofs.put_diagnostic.Reads as reads
-use Rattle.request_writer.proofs.put_diagnostic.Lts as lts
-use Rattle.bytes.proofs.copy.Reads as copy-reads
-use Rattle.octets.proofs.high.Reads as high-reads
-use Rattle.octets.proofs.low.Reads as low-reads
-use Rattle.octets.proofs.numbers.Kind.request_id.Reads as request-id-reads
 
--- src/lib.rt:97:9
 request-id-requires : tie.Need-request-id-requires
 request-id-requires c κs = search needs
 
--- src/lib.rt:101:9
 low-requires : tie.Need-low-requires
 low-requires c κs = search needs
 
--- src/lib.rt:102:9
 high-requires : tie.Need-high-requires
 high-requires c κs = search needs
 
--- src/lib.rt:104:17
 slice-aggregate-copy : tie.Need-slice-aggregate-copy
 slice-aggregate-copy c = search needs
 
--- src/lib.rt:104:5
 copy-requires : tie.Need-copy-requires
 copy-requires c κs = search needs
 
--- src/lib.rt:91:1
 same-length : tie.Need-same-length
 same-length c = search needs
 
--- src/lib.rt:91:1
 returns : tie.Need-returns
-returns c = ?
+returns c =
+    let a = c .before .before .before .before .before .before .before .before .before .args in
+    let e = rw (c .before .before .before .before .before .before .before .request-id .ensures, c .before .before .before .before .before .before .low .ensures, c .before .before .before .before .before .high .ensures) (diagnostic-octets (a .e)) in
+    ((c .before .before .copy .ensures .0 ∙ ap length (diagnostic-octets (a .e)), omega (arith, c .before .before .copy .ensures .0)), copied _ _ (a .buf .now) (c .before .before .copy .last .1 .0) e (c .before .before .copy .ensures .1))
 
 pub put-diagnostic-spec : {M : Type 1} → statement M
 put-diagnostic-spec =
