@@ -17,16 +17,17 @@ use Rattle.laws.proofs.Walk.{start}
 use Rattle.octets.specs.declared.numbers.Kind.{Kind}
 use Rattle.octets.specs.declared.numbers.Kind.the-variants.{Event, Diagnostic}
 use Rattle.octets.specs.declared.refusals.Refusal.{Refusal}
-use Rattle.octets.specs.Refusals.{frameHeader, ninthElement, noElement}
+use Rattle.octets.specs.Refusals.{frameLength, frameHeader, ninthElement, noElement}
 use Rattle.octets.specs.Numbers.{requestAction}
 use Rattle.requests.specs.declared.Element.{Element}
+use Rattle.requests.specs.declared.Request.{Request}
 use Rattle.requests.specs.Elements.{walkElements}
 use Rattle.requests.specs.Requests.{refusedRequest, lacksElement, requestOf, readKind, readRequest}
 use Rattle.requests.proofs.Found.{All}
 use Rattle.request_writer.specs.declared.Written.{Written}
 use Rattle.request_writer.specs.Frames.{elementsOctets, frameOctets}
-use Rattle.request_writer.specs.Writer.{placeBehind, refusedWritten, writtenLength, tokenRefusal, elementsAnswer, frameAnswer, writeAnswer, writeOctets}
-use Rattle.request_writer.specs.ReadBack.{readBack}
+use Rattle.request_writer.specs.Writer.{placeBehind, refusedWritten, writtenLength, tokenRefusal, elementsAnswer, frameAnswer, writeAnswer, writeOctets, Outcome, outcome, writeRequest}
+use Rattle.request_writer.specs.ReadBack.{readBack, echoed}
 use Rattle.request_writer.proofs.Shapes.{Shaped, all-take}
 use Rattle.request_writer.proofs.Lengths.{elements-length}
 use Rattle.request_writer.proofs.ElementsBack.{atElements, elements-back}
@@ -124,3 +125,47 @@ module _ (kind : Kind) (dialog : ℕ) (es : List Element) (count : ℕ) (s : Lis
 
   pub round-trip : readRequest (take (writeAnswer kind dialog es count (length s) .length) (writeOctets kind dialog es count s)) ≡ readBack kind dialog es count
   round-trip = rw frame-written frame-read
+
+-- ---- written and then read
+
+-- an answer's length: the frame's, at most 267, or 0 where it is refused
+pub record Bounded (w : Written) : Type 0 where
+  pub most : w .length ≤ 267
+  pub refused-zero : (w .refusal .number ≡ 0 → ⊥) → w .length ≡ 0
+
+refused-bounded : (n p : ℕ) → Bounded (refusedWritten n p)
+refused-bounded n p = record { most = omega arith; refused-zero = λ _. refl }
+
+module _ (kind : Kind) (dialog : ℕ) (es : List Element) (count : ℕ) (shapes : All Shaped es) (eight : length es ≡ 8) where
+  elements-bounded : Bounded (elementsAnswer kind es count)
+  unfolding elementsAnswer
+  elements-bounded =
+      let bad : Refusal = tokenRefusal kind [] (take count es) in
+      either Bounded (not (eqb (bad .number) 0)) (refusedWritten (bad .number) (bad .place)) _ (λ _. refused-bounded _ _)
+      (λ _. either Bounded (ltb 8 count) (refusedWritten ninthElement (placeBehind kind es)) (writtenLength (placeBehind kind (take count es))) (λ _. refused-bounded _ _)
+      (λ _. record { most = omega (arith, elements-length kind 0 (take count es) (all-take count es shapes), length-take count es); refused-zero = λ z. absurd (z refl) }))
+
+  frame-bounded : (w : Written) → Bounded w → Bounded (frameAnswer kind count w)
+  unfolding frameAnswer
+  frame-bounded w p =
+      either Bounded (not (eqb (w .refusal .number) 0)) w _ (λ _. p) (λ _. either Bounded (lacksElement kind count) (refusedWritten noElement 0) w (λ _. refused-bounded _ _) (λ _. p))
+
+  pub answer-bounded : (room : ℕ) → Bounded (writeAnswer kind dialog es count room)
+  unfolding writeAnswer
+  answer-bounded room =
+      either Bounded _ _ _ (λ _. refused-bounded _ _) (λ _. either Bounded _ _ _ (λ _. refused-bounded _ _) (λ _. frame-bounded _ elements-bounded))
+
+  pub echo-read : (s y : List ℕ) (w : Written) (r : Request) → length s ≡ 267 → outcome w y ≡ writeRequest kind dialog es count s → r ≡ readRequest (take (w .length) y)
+      → r ≡ echoed kind dialog es count
+  unfolding echoed readRequest if_then_else_
+  echo-read s y w r long wrote read = rw (← long) (go (eqb (writeAnswer kind dialog es count (length s) .refusal .number) 0) refl)
+    where
+      len : w .length ≡ writeAnswer kind dialog es count (length s) .length
+      len = ap (λ (o : Outcome). o .answer .length) wrote
+
+      octets : y ≡ writeOctets kind dialog es count s
+      octets = ap (λ (o : Outcome). o .octets) wrote
+
+      go : (t : Bool) → eqb (writeAnswer kind dialog es count (length s) .refusal .number) 0 ≡ t → r ≡ (if t then readBack kind dialog es count else refusedRequest frameLength 0)
+      go true q = read ∙ rw (len, octets) (round-trip kind dialog es count s eight shapes (eqb-true _ 0 q))
+      go false q = read ∙ rw (len, answer-bounded (length s) .refused-zero (eqb-false _ 0 q))

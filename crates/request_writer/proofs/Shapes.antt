@@ -26,10 +26,17 @@ all-take zero xs p = none
 all-take (suc n) [] p = none
 all-take (suc n) (x ∷ xs) (also p ps) = also p (all-take n xs ps)
 
--- what owning an array tells of all its elements
-pub each-all : {D E : Type 0} {P : D → Type 0} (f : E → List Val → Fml) (into : D → E)
+-- what owning an array tells of all its elements; inside a struct, its elements are mapped
+pub each-all : {D : Type 0} {P : D → Type 0} (f : D → List Val → Fml)
+    → ((x : D) (u : Val) → shadow (f x (u ∷ [])) → P x)
+    → (xs : List D) (us : List Val) → shadow (each D f xs us) → All P xs
+each-all f tells [] us p = none
+each-all f tells (x ∷ xs) [] p = absurd p
+each-all f tells (x ∷ xs) (u ∷ us) p = also (tells x u (p .0)) (each-all f tells xs us (p .1))
+
+pub each-mapped : {D E : Type 0} {P : D → Type 0} (f : E → List Val → Fml) (into : D → E)
     → ((x : D) (u : Val) → shadow (f (into x) (u ∷ [])) → P x)
     → (xs : List D) (us : List Val) → shadow (each E f (map into xs) us) → All P xs
-each-all f into tells [] us p = none
-each-all f into tells (x ∷ xs) [] p = absurd p
-each-all f into tells (x ∷ xs) (u ∷ us) p = also (tells x u (p .0)) (each-all f into tells xs us (p .1))
+each-mapped f into tells [] us p = none
+each-mapped f into tells (x ∷ xs) [] p = absurd p
+each-mapped f into tells (x ∷ xs) (u ∷ us) p = also (tells x u (p .0)) (each-mapped f into tells xs us (p .1))

@@ -4,7 +4,7 @@ use Prim.Native.Nat.{ℕ, suc, _+_, _-_, _*_, _≤_, _<_}
 use mathlib.Core.Path.{_≡_, refl, sym, ap, _∙_}
 use mathlib.Core.Bool.{Bool, true, false}
 use mathlib.Core.List.{List, [], _∷_, _++_, append-assoc, append-nil}
-use lib.ListN.{length, getD, take, drop, length-append, length-take, drop-of-length-le}
+use lib.ListN.{length, getD, take, drop, length-append, length-take, length-drop, drop-of-length-le}
 use lib.Seq.{drop-cons, take-suc, take-all, take-at, drop-at, drop-drop, length-take-le, take-append-add}
 use lib.Dec.{ltb, eqb}
 use borrow.Author.Tests.{eq-eqb, ne-eqb, lt-ltb, le-ltb}
@@ -42,6 +42,10 @@ headed h o s a e fits =
     ap (λ (x : List ℕ). h ++ x) (ap (λ (k : ℕ). drop k (take a s ++ y)) e ∙ drop-at (take a s) y a (length-take-le a s fits))
     ∙ sym (append-assoc h o (drop (length o) (drop a s)))
     ∙ ap (λ (x : List ℕ). (h ++ o) ++ x) (drop-drop (length o) a s ∙ ap (λ (k : ℕ). drop k s) n)
+
+-- the part behind the first a octets
+pub tail-length : (s : List ℕ) (a : ℕ) → a ≤ length s → length (take (length s - a) (drop a s)) ≡ length s - a
+tail-length s a h = length-take-le (length s - a) (drop a s) (omega (arith, length-drop a s))
 
 -- an array of six, place by place
 pub six : (o : List ℕ) → length o ≡ 6 → getD o 0 0 ∷ getD o 1 0 ∷ getD o 2 0 ∷ getD o 3 0 ∷ getD o 4 0 ∷ getD o 5 0 ∷ [] ≡ o

@@ -58,7 +58,7 @@ fn put_condition(buf: &mut [u8], id: usize, c: Condition) -> usize
 // The conditions, in rising ID order.
 fn put_filter(buf: &mut [u8], filter: [Condition; 5]) -> usize
     requires { ⌜ length (filterOctets filter) ≤ length (now buf) ⌝ }
-    ensures { λ r. ⌜ r ≡ length (filterOctets filter) ⌝ }
+    ensures { λ r. ⌜ (r ≡ length (filterOctets filter)) × (r ≤ 28) ⌝ }
     ensures { λ _. ⌜ now (buf .exit) ≡ onto (filterOctets filter) (now (buf .entry)) ⌝ }
 {
     let mut at: usize = 0;
@@ -138,7 +138,7 @@ fn of_length(length: usize) -> Written
 // buffer has those before it.
 fn put_elements(buf: &mut [u8], kind: Kind, es: [Element; 8], count: usize) -> Written
     requires { ⌜ length (now buf) ≡ 264 ⌝ }
-    ensures { λ r. ⌜ r ≡ elementsAnswer kind es count ⌝ }
+    ensures { λ r. ⌜ (r ≡ elementsAnswer kind es count) × (r .length ≤ 267) ⌝ }
     ensures { λ r. ⌜ (r .refusal .number ≡ 0 → now (buf .exit) ≡ onto (elementsOctets kind (take count es)) (now (buf .entry))) ⌝ }
 {
     let mut at: usize = 0;

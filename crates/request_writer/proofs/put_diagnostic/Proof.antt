@@ -6,6 +6,8 @@ use Prim.Native.Nat.{ℕ}
 use native.Mathlib.Omega.{arith}
 use lib.ListN.{length}
 use Rattle.laws.proofs.Buffers.{copied}
+use Rattle.octets.specs.declared.numbers.Kind.the-variants.{Diagnostic}
+use Rattle.request_writer.specs.Frames.{elementOctets}
 use Rattle.request_writer.proofs.Writing.{diagnostic-octets}
 use borrow.Author.Needs.{needs}
 use Rattle.request_writer.proofs.put_diagnostic.Statement.{statement}
@@ -32,7 +34,8 @@ same-length c = search needs
 returns : tie.Need-returns
 returns c =
     let a = c .before .before .before .before .before .before .before .before .before .args in
-    let e = rw (c .before .before .before .before .before .before .before .request-id .ensures, c .before .before .before .before .before .before .low .ensures, c .before .before .before .before .before .high .ensures) (diagnostic-octets (a .e)) in
+    let e : (c .before .before .before .before .before .before .before .request-id .result) ∷ 4 ∷ a .e .token ∷ a .e .ty ∷ (c .before .before .before .before .before .before .low .result) ∷ (c .before .before .before .before .before .high .result) ∷ [] ≡ elementOctets Diagnostic (a .e)
+    = rw (c .before .before .before .before .before .before .before .request-id .ensures, c .before .before .before .before .before .before .low .ensures, c .before .before .before .before .before .high .ensures) (diagnostic-octets (a .e)) in
     ((c .before .before .copy .ensures .0 ∙ ap length (diagnostic-octets (a .e)), omega (arith, c .before .before .copy .ensures .0)), copied _ _ (a .buf .now) (c .before .before .copy .last .1 .0) e (c .before .before .copy .ensures .1))
 
 pub put-diagnostic-spec : {M : Type 1} → statement M

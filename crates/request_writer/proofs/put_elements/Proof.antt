@@ -1,113 +1,105 @@
+-- `request_writer::put_elements` meets its contract. The invariant, `Laying`: the elements before this one stand at the front, and their tokens are good.
+-- Assumes nothing.
+use Prim.Native.Nat.{ℕ, _+_, _-_}
+use mathlib.Core.Path.{_≡_, sym, ap, _∙_}
+use native.Mathlib.Omega.{arith}
+use lib.ListN.{length}
+use borrow.Author.Needs.{needs}
+use Rattle.laws.proofs.Arrays.{length-mapped}
+use Rattle.request_writer.specs.declared.Written.{Written}
+use Rattle.request_writer.proofs.Writing.{Laying, laying-start, laying-length, laying-fits, laying-bad, laying-next, laying-ninth, laying-end, laying-done}
 use Rattle.request_writer.proofs.put_elements.Statement.{statement}
 use Rattle.request_writer.proofs.put_elements.Tie as tie
-use Rattle.request_writer.proofs.put_elements.Reads as reads
-use Rattle.request_writer.proofs.put_elements.Lts as lts
-use Rattle.request_writer.proofs.of_length.Reads as of-length-reads
-use Rattle.request_writer.proofs.put_element.Reads as put-element-reads
-use Rattle.request_writer.proofs.refused.Reads as refused-reads
-use Rattle.requests.proofs.bad_token.Reads as bad-token-reads
 
 abbrev Inv-loop : tie.InvT-loop
-Inv-loop buf₀ kind count es at₀ i₀ buf at i = ?
+Inv-loop buf₀ kind count es at₀ i₀ buf at i = Laying kind es count buf₀ buf at i
 
 abbrev μ-loop : tie.MeasureT-loop
-μ-loop buf₀ kind count es at₀ i₀ buf at i = ?
+μ-loop buf₀ kind count es at₀ i₀ buf at i = count - i
 
--- src/lib.rt:146:5
 loop-holds : tie.Need-loop-holds Inv-loop μ-loop
-loop-holds c = ?
+loop-holds c = laying-start _ _ _ _ (search (needs, length-mapped)) (c .before .pre)
 
--- src/lib.rt:148:51
 add-refused : tie.Need-add-refused Inv-loop μ-loop
-add-refused c = ?
+add-refused c = let l = c .before .before .loop .inv in omega (arith, l .small, l .few)
 
--- src/lib.rt:148:13
 refused-requires : tie.Need-refused-requires Inv-loop μ-loop
-refused-requires c κs = ?
+refused-requires c κs = tt
 
--- src/lib.rt:148:13
 same-length : tie.Need-same-length Inv-loop μ-loop
-same-length c = ?
+same-length c = laying-length (c .before .before .before .loop .inv)
 
--- src/lib.rt:148:13
 returns : tie.Need-returns Inv-loop μ-loop
-returns c = ?
+returns c =
+    let l = c .before .before .before .loop .inv in
+    let e = c .refused .ensures in
+    ((e ∙ laying-ninth l (c .before .before .loop-test .taken) (c .before .if1 .taken), omega (arith, ap (λ (w : Written). w .length) e)), λ z. absurd (omega (arith, z, ap (λ (w : Written). w .refusal .number) e)))
 
--- src/lib.rt:150:17
 mul-e : tie.Need-mul-e Inv-loop μ-loop
-mul-e c = ?
+mul-e c = omega arith
 
--- src/lib.rt:150:17
 array-copy-out-e : tie.Need-array-copy-out-e Inv-loop μ-loop
-array-copy-out-e c = ?
+array-copy-out-e c = omega (arith, c .before .before .loop .inv .eight)
 
--- src/lib.rt:151:12
 bad-token-requires : tie.Need-bad-token-requires Inv-loop μ-loop
-bad-token-requires c κs = ?
+bad-token-requires c κs = tt
 
--- src/lib.rt:152:51
 add-refused-2 : tie.Need-add-refused-2 Inv-loop μ-loop
-add-refused-2 c = ?
+add-refused-2 c = let l = c .before .before .before .before .before .loop .inv in omega (arith, l .small, l .few)
 
--- src/lib.rt:152:13
 refused-requires-2 : tie.Need-refused-requires-2 Inv-loop μ-loop
-refused-requires-2 c κs = ?
+refused-requires-2 c κs = tt
 
--- src/lib.rt:152:13
 same-length-2 : tie.Need-same-length-2 Inv-loop μ-loop
-same-length-2 c = ?
+same-length-2 c = laying-length (c .before .before .before .before .before .before .loop .inv)
 
--- src/lib.rt:152:13
 returns-2 : tie.Need-returns-2 Inv-loop μ-loop
-returns-2 c = ?
+returns-2 c =
+    let l = c .before .before .before .before .before .before .loop .inv in
+    let e = c .refused2 .ensures in
+    let b = sym (c .before .before .bad-token .ensures) ∙ c .before .if2 .taken in
+    ((e ∙ laying-bad l (c .before .before .before .before .before .loop-test .taken) (c .before .before .before .before .if1 .left) b, omega (arith, ap (λ (w : Written). w .length) e)), λ z. absurd (omega (arith, z, ap (λ (w : Written). w .refusal .number) e)))
 
--- src/lib.rt:154:27
 sub-put-element : tie.Need-sub-put-element Inv-loop μ-loop
-sub-put-element c = ?
+sub-put-element c = let l = c .before .before .before .before .before .loop .inv in omega (arith, laying-length l, l .small, l .few, l .room)
 
--- src/lib.rt:154:27
 part-put-element-start : tie.Need-part-put-element-start Inv-loop μ-loop
-part-put-element-start c = ?
+part-put-element-start c = let l = c .before .before .before .before .before .loop .inv in omega (arith, laying-length l, l .small, l .few, l .room)
 
--- src/lib.rt:154:27
 part-put-element-end : tie.Need-part-put-element-end Inv-loop μ-loop
-part-put-element-end c = ?
+part-put-element-end c = search needs
 
--- src/lib.rt:154:15
 put-element-requires : tie.Need-put-element-requires Inv-loop μ-loop
-put-element-requires c κs = ?
+put-element-requires c κs = let l = c .before .before .before .before .before .before .loop .inv in laying-fits l (c .before .before .before .before .before .loop-test .taken) (c .before .before .before .before .if1 .left)
 
--- src/lib.rt:154:9
 add-at : tie.Need-add-at Inv-loop μ-loop
-add-at c = ?
+add-at c = let l = c .before .before .before .before .before .before .before .before .before .loop .inv in omega (arith, l .small, l .few, c .before .before .put-element .ensures .0 .1)
 
--- src/lib.rt:155:9
 add-i : tie.Need-add-i Inv-loop μ-loop
-add-i c = ?
+add-i c = omega arith
 
--- src/lib.rt:146:5
 loop-less : tie.Need-loop-less Inv-loop μ-loop
-loop-less c = ?
+loop-less c = omega arith
 
--- src/lib.rt:146:5
 loop-again : tie.Need-loop-again Inv-loop μ-loop
-loop-again c = ?
+loop-again c =
+    let l = c .before .before .before .before .before .before .before .before .before .loop .inv in
+    laying-next l (c .before .before .before .before .before .before .before .before .loop-test .taken) (c .before .before .before .before .before .before .before .if1 .left) (c .before .before .put-element .result) (c .before .before .put-element .last .0) (sym (c .before .before .before .before .before .bad-token .ensures) ∙ c .before .before .before .before .if2 .left) (c .before .before .put-element .ensures .0 .0) (c .before .before .put-element .ensures .0 .1) (c .before .before .put-element .ensures .1)
 
--- src/lib.rt:157:15
 add-of-length : tie.Need-add-of-length Inv-loop μ-loop
-add-of-length c = ?
+add-of-length c = let l = c .before .loop .inv in omega (arith, l .small, l .few)
 
--- src/lib.rt:157:5
 of-length-requires : tie.Need-of-length-requires Inv-loop μ-loop
-of-length-requires c κs = ?
+of-length-requires c κs = tt
 
--- src/lib.rt:139:1
 same-length-3 : tie.Need-same-length-3 Inv-loop μ-loop
-same-length-3 c = ?
+same-length-3 c = laying-length (c .before .before .loop .inv)
 
--- src/lib.rt:139:1
 returns-3 : tie.Need-returns-3 Inv-loop μ-loop
-returns-3 c = ?
+returns-3 c =
+    let l = c .before .before .loop .inv in
+    let e = c .of-length .ensures in
+    ((e ∙ laying-end l (c .before .loop-test .left), omega (arith, l .small, l .few, ap (λ (w : Written). w .length) e)), λ _. laying-done l (c .before .loop-test .left))
 
 pub put-elements-spec : {M : Type 1} → statement M
 put-elements-spec =

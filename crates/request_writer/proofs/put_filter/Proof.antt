@@ -11,6 +11,7 @@ use Rattle.laws.proofs.Pieces.{pieces-next, pieces-end}
 use Rattle.laws.proofs.Arrays.{length-mapped}
 use Rattle.subelements.specs.Subelements.{pastFilter}
 use Rattle.request_writer.specs.Frames.{conditionOctets, filterOctets}
+use Rattle.request_writer.proofs.Lengths.{filter-length}
 use Rattle.request_writer.proofs.put_filter.Statement.{statement}
 use Rattle.request_writer.proofs.put_filter.Tie as tie
 
@@ -75,7 +76,8 @@ returns : tie.Need-returns Inv-loop μ-loop
 returns c =
     let i = c .before .loop .inv in
     let e = pieces-end conditionOctets (c .before .before .before .args .t2) (c .before .loop .id) (omega (arith, i .1)) in
-    (putting-end (i .2) e, putting-done (i .2) e)
+    let n = putting-end (i .2) e in
+    ((n, omega (arith, n, filter-length (c .before .before .before .args .t2) (i .1))), putting-done (i .2) e)
 
 pub put-filter-spec : {M : Type 1} → statement M
 put-filter-spec =
