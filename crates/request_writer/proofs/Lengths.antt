@@ -21,13 +21,6 @@ use Rattle.requests.proofs.Found.{All, none, also}
 use Rattle.request_writer.specs.Frames.{conditionOctets, filterOctets, elementBody, elementOctets, elementsOctets}
 use Rattle.request_writer.proofs.Shapes.{Shaped}
 
--- ---- general
-
-pub pieces-snoc : {P : Type 0} (f : P → List ℕ) (i : ℕ) (ps : List P) (p : P) → pieces (λ (k : ℕ) (x : P). f x) i (ps ++ (p ∷ [])) ≡ pieces (λ (k : ℕ) (x : P). f x) i ps ++ f p
-unfolding pieces
-pieces-snoc f i [] p = append-nil (f p)
-pieces-snoc f i (x ∷ ps) p = ap (λ (l : List ℕ). f x ++ l) (pieces-snoc f (suc i) ps p) ∙ sym (append-assoc (f x) _ (f p))
-
 -- ---- conditions
 
 -- the octets of all conditions from an ID on

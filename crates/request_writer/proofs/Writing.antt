@@ -24,11 +24,10 @@ use Rattle.subelements.specs.declared.Condition.{Condition}
 use Rattle.subelements.specs.Subelements.{lengthOf}
 use Rattle.requests.specs.declared.Element.{Element}
 use Rattle.requests.specs.Elements.{pastElements, badToken}
-use Rattle.requests.proofs.Laws.{take-next}
+use Rattle.requests.proofs.Laws.{take-next, pieces-snoc}
 use Rattle.request_writer.specs.declared.Written.{Written}
 use Rattle.request_writer.specs.Frames.{conditionOctets, filterOctets, elementBody, elementOctets, elementsOctets, frameOctets}
 use Rattle.request_writer.specs.Writer.{placeBehind, tokenRefusal, refusedWritten, writtenLength, elementsAnswer, frameAnswer, writeAnswer, writeOctets, outcome, writeRequest}
-use Rattle.request_writer.proofs.Lengths.{pieces-snoc}
 use Rattle.request_writer.proofs.ConditionsBack.{length-of}
 use Rattle.request_writer.proofs.RoundTrip.{elements-accepted, frame-accepted}
 
