@@ -8,7 +8,7 @@ ghost use mathlib.Core.Path.{_≡_};
 ghost use mathlib.Core.List.{[]};
 ghost use Prim.Native.Nat.{_≤_, min};
 ghost use lib.ListN.{length, take};
-ghost use Rattle.laws.specs.Buffers.{wrote, putFront, putAt};
+ghost use Rattle.laws.specs.Buffers.{wrote, putFront};
 ghost use Rattle.reports.specs.Reports.{reportHead, reportElement, eventElement};
 
 // The longest list behind token, type and status.
@@ -53,12 +53,25 @@ pub fn put_event(buf: &mut [u8], token: u8, entry: Entry) -> usize
     put(buf, behind_time, &body)
 }
 
-// The first n octets of a list, behind the first `at` of a buffer.
-fn put_part(buf: &mut [u8], at: usize, list: &[u8], n: usize) -> usize
-    requires { ⌜ n ≤ length (now list) ⌝ }
-    ensures { λ r. ⌜ wrote r (now (buf .exit)) ≡ putAt (take n (now (list .entry))) at (now (buf .entry)) ⌝ }
+// A report with the first n octets of a list behind its status.
+fn put_rest(
+    buf: &mut [u8],
+    kind: Kind,
+    token: u8,
+    ty: u8,
+    status: u8,
+    list: &[u8],
+    n: usize,
+) -> usize
+    requires { ⌜ (n ≤ 252) × (n ≤ length (now list)) ⌝ }
+    ensures { λ r. ⌜ wrote r (now (buf .exit)) ≡ putFront (reportElement kind token ty status (take n (now (list .entry)))) (now (buf .entry)) ⌝ }
 {
-    put(buf, at, &list[..n])
+    if buf.len() < 5 + n {
+        return 0;
+    }
+    let head = head_of(kind, token, ty, status, n);
+    let behind_head = put(buf, 0, &head);
+    put(buf, behind_head, &list[..n])
 }
 
 // A report with a list behind its status: len octets, at most 252 (a diagnostic's subelements).
@@ -74,10 +87,5 @@ pub fn put_list(
     ensures { λ r. ⌜ wrote r (now (buf .exit)) ≡ putFront (reportElement kind token ty status (take len (now (list .entry)))) (now (buf .entry)) ⌝ }
 {
     let n = least(len, LONGEST_LIST);
-    if buf.len() < 5 + n {
-        return 0;
-    }
-    let head = head_of(kind, token, ty, status, n);
-    let behind_head = put(buf, 0, &head);
-    put_part(buf, behind_head, list, n)
+    put_rest(buf, kind, token, ty, status, list, n)
 }
