@@ -40,7 +40,7 @@ pub data EventSent : Sent → Type 0 where
   plain : {token ty status : ℕ} → status ≤ cancelled → EventSent (sent token ty status [] (plainElement token ty status 0 0))
   logged : {token : ℕ} (time body : List ℕ) → length time ≡ 9 → length body ≡ 21 → goodTime time ≡ true
       → EventSent (sent token 0 successful (time ++ body) (loggedElement token 0 successful (eventAt (time ++ body) 0)))
-  unread : {token ty : ℕ} (rest : List ℕ) → (ty ≡ 0 → ⊥)
+  kept : {token ty : ℕ} (rest : List ℕ) → (ty ≡ 0 → ⊥)
       → EventSent (sent token ty successful rest (plainElement token ty successful (length rest) 0))
 
 -- a list of subelements
