@@ -98,6 +98,10 @@ step-goes s kind at =
     either (Goes s at) _ _ _ (λ _ _. record { on = omega (arith, e .is); within = e .within })
     (λ _. own-goes s at (getD s (at + 1) 0) (omega (arith, e .is, e .within)) kind))
 
+-- the same of a step that was taken, for loops over a cursor
+pub goes-on : (s : List ℕ) (kind : Kind) (at : ℕ) (t : Step) → t ≡ stepAt s kind at → t .refusal .number ≡ 0 → Forward s at t
+goes-on s kind at t e z = rw e (step-goes s kind at (rw e at z))
+
 -- ---- so does the judgement's step, and its position bounds its count
 
 pub record Moved (end : ℕ) (w r : Walk) : Type 0 where
