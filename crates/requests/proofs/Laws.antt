@@ -3,7 +3,7 @@
 use Prim.Native.Nat.{ℕ, zero, suc, _+_, _-_, _≤_, _<_}
 use mathlib.Core.Path.{_≡_, refl, sym, ap, _∙_}
 use mathlib.Core.Bool.{Bool, true, false, _&&_}
-use mathlib.Core.List.{List, [], _∷_}
+use mathlib.Core.List.{List, [], _∷_, _++_, append-assoc, append-nil}
 use lib.ListN.{length, getD, take, drop, length-take, drop-of-length-le}
 use lib.Seq.{drop-cons, getD-take}
 use lib.Dec.{eqb, ltb}
@@ -12,6 +12,7 @@ use native.Mathlib.Numerals.{add-one}
 use native.Mathlib.Omega.{arith}
 use Rattle.laws.specs.Choice.{if_then_else_}
 use Rattle.laws.specs.Walk.{repeatWhile}
+use Rattle.laws.specs.Buffers.{pieces}
 use Rattle.laws.proofs.Choice.{either}
 use Rattle.octets.specs.declared.numbers.Kind.{Kind}
 use Rattle.octets.specs.declared.numbers.Kind.the-variants.{Event, Diagnostic}
@@ -40,6 +41,16 @@ keeps-while P more step f (suc k) w p = at-test (more w) refl (λ m. keeps-while
 pub and-first : (a b : Bool) → (a && b) ≡ true → a ≡ true
 and-first true b e = refl
 and-first false b e = e
+
+-- what is left of the first n elements from i on, is the i-th and those behind it
+pub take-next : {A : Type 0} (xs : List A) (d : A) (n i : ℕ) → i < n → i < length xs → drop i (take n xs) ≡ getD xs i d ∷ drop (i + 1) (take n xs)
+take-next xs d n i h k = rw add-one (drop-cons (take n xs) i d (omega (arith, length-take n xs)) ∙ rw (getD-take n xs i d h))
+
+-- the octets of one piece more
+pub pieces-snoc : {P : Type 0} (f : P → List ℕ) (i : ℕ) (ps : List P) (p : P) → pieces (λ (k : ℕ) (x : P). f x) i (ps ++ (p ∷ [])) ≡ pieces (λ (k : ℕ) (x : P). f x) i ps ++ f p
+unfolding pieces
+pieces-snoc f i [] p = append-nil (f p)
+pieces-snoc f i (x ∷ ps) p = ap (λ (l : List ℕ). f x ++ l) (pieces-snoc f (suc i) ps p) ∙ sym (append-assoc (f x) _ (f p))
 
 -- ---- the number of subelements: an element of at most 255 octets has fewer than 256
 
@@ -83,17 +94,13 @@ subelements-few s Diagnostic at end h = omega (arith, walk-few s 0 (at + 6) end)
 
 module _ (es : List Element) (n token i : ℕ) where
   module _ (h : i < n) (k : i < length es) where
-    next-token : drop i (take n es) ≡ getD es i pastElements ∷ drop (i + 1) (take n es)
-    next-token =
-        rw add-one (drop-cons (take n es) i pastElements (omega (arith, length-take n es)) ∙ rw (getD-take n es i pastElements h))
-
     pub token-found : getD es i pastElements .token ≡ token → hasToken (drop i (take n es)) token ≡ true
     unfolding hasToken if_then_else_
-    token-found e = rw (next-token, eq-eqb _ token e)
+    token-found e = rw (take-next es pastElements n i h k, eq-eqb _ token e)
 
     pub token-next : (getD es i pastElements .token ≡ token → ⊥) → hasToken (drop i (take n es)) token ≡ hasToken (drop (i + 1) (take n es)) token
     unfolding hasToken if_then_else_
-    token-next e = rw (next-token, ne-eqb _ token e)
+    token-next e = rw (take-next es pastElements n i h k, ne-eqb _ token e)
 
   pub token-none : length (take n es) ≤ i → hasToken (drop i (take n es)) token ≡ false
   unfolding hasToken

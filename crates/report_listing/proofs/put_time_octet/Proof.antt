@@ -1,0 +1,21 @@
+-- `report_listing::put_time_octet` meets its contract.
+-- Assumes nothing.
+use Rattle.report_listing.proofs.Laws.{words-two}
+use borrow.Author.Needs.{needs}
+use Rattle.report_listing.proofs.put_time_octet.Statement.{statement}
+use Rattle.report_listing.proofs.put_time_octet.Tie as tie
+
+put-requires : tie.Need-put-requires
+put-requires c κs = search needs
+
+put-known-requires : tie.Need-put-known-requires
+put-known-requires c κs = search needs
+
+same-length : tie.Need-same-length
+same-length c = search needs
+
+returns : tie.Need-returns
+returns c = words-two _ _ _ _ _ _ _ _ (c .before .before .before .before .before .before .put .ensures) (c .before .before .put-known .ensures)
+
+pub put-time-octet-spec : {M : Type 1} → statement M
+put-time-octet-spec = tie.close (tie.spec put-requires put-known-requires same-length returns)

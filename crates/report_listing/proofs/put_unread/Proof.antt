@@ -1,0 +1,29 @@
+-- `report_listing::put_unread` meets its contract.
+-- Assumes nothing.
+use borrow.Author.Tests.{eq-eqb, ne-eqb}
+use Rattle.laws.specs.Choice.{if_then_else_}
+use Rattle.report_listing.specs.Listing.{putWords, unreadWords}
+use borrow.Author.Needs.{needs}
+use Rattle.report_listing.proofs.put_unread.Statement.{statement}
+use Rattle.report_listing.proofs.put_unread.Tie as tie
+
+slice-aggregate-put-size : tie.Need-slice-aggregate-put-size
+slice-aggregate-put-size c = search needs
+
+put-size-requires : tie.Need-put-size-requires
+put-size-requires c κs = search needs
+
+returns : tie.Need-returns
+unfolding putWords unreadWords if_then_else_
+returns c = rw (eq-eqb _ 0 (c .match .keys1))
+
+same-length : tie.Need-same-length
+same-length c = search needs
+
+returns-2 : tie.Need-returns-2
+unfolding unreadWords if_then_else_
+returns-2 c = rw (ne-eqb _ 0 (c .before .before .before .before .before .match .rest .1)) (c .before .before .put-size .ensures)
+
+pub put-unread-spec : {M : Type 1} → statement M
+put-unread-spec =
+    tie.close (tie.spec slice-aggregate-put-size put-size-requires returns same-length returns-2)

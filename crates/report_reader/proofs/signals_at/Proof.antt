@@ -1,0 +1,51 @@
+-- `report_reader::signals_at` meets its contract.
+-- Assumes nothing.
+use Prim.Native.Nat.{_+_}
+use mathlib.Core.Path.{_≡_, sym, ap, _∙_}
+use native.Mathlib.Nat.{add-zero}
+use native.Mathlib.Omega.{arith}
+use lib.ListN.{take, drop}
+use Rattle.report_reader.proofs.Laws.{spelt, part-spelt}
+use borrow.Author.Needs.{needs}
+use Rattle.report_reader.proofs.signals_at.Statement.{statement}
+use Rattle.report_reader.proofs.signals_at.Tie as tie
+
+shared-slice-read-t4 : tie.Need-shared-slice-read-t4
+shared-slice-read-t4 c = search needs
+
+add-t5 : tie.Need-add-t5
+add-t5 c = search needs
+
+shared-slice-read-t7 : tie.Need-shared-slice-read-t7
+shared-slice-read-t7 c = search needs
+
+add-t8 : tie.Need-add-t8
+add-t8 c = search needs
+
+shared-slice-read-t10 : tie.Need-shared-slice-read-t10
+shared-slice-read-t10 c = search needs
+
+add-t11 : tie.Need-add-t11
+add-t11 c = search needs
+
+shared-slice-read-t13 : tie.Need-shared-slice-read-t13
+shared-slice-read-t13 c = search needs
+
+returns : tie.Need-returns
+unfolding spelt
+returns c =
+    let a = c .before .before .before .before .args in
+    sym (rw (add-zero (a .at)) at (part-spelt 4 0 (a .s .now) (a .at) (omega (arith, c .before .before .before .before .pre))))
+
+pub signals-at-spec : {M : Type 1} → statement M
+signals-at-spec =
+    tie.close
+    (tie.spec
+    shared-slice-read-t4
+    add-t5
+    shared-slice-read-t7
+    add-t8
+    shared-slice-read-t10
+    add-t11
+    shared-slice-read-t13
+    returns)

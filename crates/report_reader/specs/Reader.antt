@@ -1,0 +1,199 @@
+-- Document 01: "Reading a report frame, given its destination: 11, 1, 2, then each element 4, 5, 17, then 14 or 7."
+-- Assumes nothing.
+use Prim.Native.Nat.{ℕ, _+_, _-_}
+use mathlib.Core.Bool.{Bool, true, false, not, _&&_}
+use mathlib.Core.List.{List, [], _∷_, _++_}
+use lib.ListN.{length, getD, take, drop}
+use lib.Dec.{ltb, eqb}
+use Rattle.laws.specs.Choice.{if_then_else_}
+use Rattle.laws.specs.Walk.{repeatWhile}
+use Rattle.octets.specs.declared.numbers.Kind.{Kind}
+use Rattle.octets.specs.declared.numbers.Kind.the-variants.{Event as EventKind, Diagnostic}
+use Rattle.octets.specs.declared.refusals.Refusal.{Refusal}
+use Rattle.octets.specs.Numbers.{category, reportAction, reportId, successful, cancelled, shortestFrame, longestFrame}
+use Rattle.octets.specs.Refusals.{refused, noRefusal, frameLength, frameHeader, elementEdge, elementLength, reportBody, timeField, groupDestination}
+use Rattle.octets.specs.Fields.{pairAt}
+use Rattle.octets.specs.Addresses.{isGroup}
+use Rattle.octets.specs.Elements.{pieceEnd}
+use Rattle.octets.specs.Times.{goodTime}
+use Rattle.subelements.specs.declared.Subelements.{Subelements}
+use Rattle.subelements.specs.Subelements.{walk}
+use Rattle.report_reader.specs.declared.Event.{Event}
+use Rattle.report_reader.specs.declared.Element.{Element}
+use Rattle.report_reader.specs.declared.Cursor.{Cursor}
+use Rattle.report_reader.specs.declared.Step.{Step}
+use Rattle.report_reader.specs.declared.Walk.{Walk}
+use Rattle.report_reader.specs.declared.Report.{Report}
+
+-- ---- one element
+
+-- the n octets at a position
+abbrev pub part : List ℕ → ℕ → ℕ → List ℕ
+part s at n = take n (drop at s)
+
+abbrev pub noEvent : Event
+noEvent = record {
+  time = 0 ∷ 0 ∷ 0 ∷ 0 ∷ 0 ∷ 0 ∷ 0 ∷ 0 ∷ 0 ∷ [];
+  source = 0 ∷ 0 ∷ 0 ∷ 0 ∷ 0 ∷ 0 ∷ [];
+  target = 0 ∷ 0 ∷ 0 ∷ 0 ∷ 0 ∷ 0 ∷ [];
+  took = record { 0 = 0 };
+  reason = 0;
+  result = 0;
+  signals = 0 ∷ 0 ∷ 0 ∷ 0 ∷ [];
+}
+
+-- "9 octets of time and 21 of transition": source BSSID 6, target BSSID 6, transition time 2, reason 1, result 2, then the four signals
+unfoldable pub eventAt : List ℕ → ℕ → Event
+eventAt s at = record {
+  time = part s at 9;
+  source = part s (at + 9) 6;
+  target = part s (at + 15) 6;
+  took = record { 0 = pairAt s (at + 21) };
+  reason = getD s (at + 23) 0;
+  result = pairAt s (at + 24);
+  signals = part s (at + 26) 4;
+}
+
+-- the fields of an element with no transition, and with one
+abbrev pub plainElement : ℕ → ℕ → ℕ → ℕ → ℕ → Element
+plainElement token ty status n subs = record { token = token; ty = ty; status = status; length = n; subs = subs; logged = false; event = noEvent }
+
+abbrev pub loggedElement : ℕ → ℕ → ℕ → Event → Element
+loggedElement token ty status event = record { token = token; ty = ty; status = status; length = 30; subs = 0; logged = true; event = event }
+
+-- what stands at a position: refused, passed over, or an element of the frame's own ID
+abbrev pub refusedStep : ℕ → ℕ → Step
+refusedStep number place =
+    record { refusal = refused number place; found = false; element = plainElement 0 0 0 0 0; rest = 0; next = record { at = 0 } }
+
+abbrev pub skippedStep : ℕ → Step
+skippedStep next =
+    record { refusal = noRefusal; found = false; element = plainElement 0 0 0 0 0; rest = 0; next = record { at = next } }
+
+abbrev pub foundStep : Element → ℕ → ℕ → Step
+foundStep element rest next =
+    record { refusal = noRefusal; found = true; element = element; rest = rest; next = record { at = next } }
+
+-- n octets of body: "token, type, status", and what is behind them
+unfoldable pub plainStep : List ℕ → ℕ → ℕ → ℕ → Step
+plainStep s at n subs =
+    foundStep (plainElement (getD s (at + 2) 0) (getD s (at + 3) 0) (getD s (at + 4) 0) (n - 3) subs) (at + 5) (at + 2 + n)
+
+unfoldable pub loggedStep : List ℕ → ℕ → Step
+loggedStep s at =
+    foundStep (loggedElement (getD s (at + 2) 0) (getD s (at + 3) 0) (getD s (at + 4) 0) (eventAt s (at + 5))) (at + 5) (at + 35)
+
+-- "event body not 3 with status 1 to 4" (17)
+unfoldable pub bareStep : List ℕ → ℕ → ℕ → Step
+bareStep s at n = if eqb n 3 then plainStep s at n 0 else refusedStep reportBody at
+
+-- "event type 0 Successful not 3 or 33" (17), then its time (14)
+unfoldable pub transitionStep : List ℕ → ℕ → ℕ → Step
+transitionStep s at n =
+    if eqb n 3 then plainStep s at n 0
+    else if not (eqb n 33) then refusedStep reportBody at
+    else if not (goodTime (part s (at + 5) 9)) then refusedStep timeField at
+    else loggedStep s at
+
+-- "For status 0 of other event types the rest is kept unread."
+unfoldable pub eventStep : List ℕ → ℕ → ℕ → Step
+eventStep s at n =
+    if not (eqb (getD s (at + 4) 0) successful) then bareStep s at n
+    else if eqb (getD s (at + 3) 0) 0 then transitionStep s at n
+    else plainStep s at n 0
+
+-- "A Diagnostic Report has subelements instead, with any status.": their edges (7)
+unfoldable pub walkedStep : List ℕ → ℕ → ℕ → Subelements → Step
+walkedStep s at n w =
+    if not (eqb (w .refusal .number) 0) then refusedStep (w .refusal .number) (w .refusal .place)
+    else plainStep s at n (w .count)
+
+unfoldable pub diagnosticStep : List ℕ → ℕ → ℕ → Step
+diagnosticStep s at n = walkedStep s at n (walk s 0 (at + 5) (at + 2 + n))
+
+abbrev pub kindStep : Kind → List ℕ → ℕ → ℕ → Step
+kindStep EventKind s at n = eventStep s at n
+kindStep Diagnostic s at n = diagnosticStep s at n
+
+-- "Body under 3" (5), "Report status over 4" (17)
+unfoldable pub ownStep : List ℕ → Kind → ℕ → ℕ → Step
+ownStep s kind at n =
+    if ltb n 3 then refusedStep elementLength at
+    else if ltb cancelled (getD s (at + 4) 0) then refusedStep reportBody at
+    else kindStep kind s at n
+
+-- "Element header or body passes the end" (4); "only its own element ID counts .. others are passed over"
+unfoldable pub stepAt : List ℕ → Kind → ℕ → Step
+stepAt s kind at =
+    if eqb (pieceEnd s at (length s)) 0 then refusedStep elementEdge at
+    else if not (eqb (getD s at 0) (reportId kind)) then skippedStep (pieceEnd s at (length s))
+    else ownStep s kind at (getD s (at + 1) 0)
+
+-- ---- a frame
+
+abbrev pub atWalk : Refusal → ℕ → ℕ → Walk
+atWalk refusal at count = record { refusal = refusal; at = at; count = count }
+
+-- behind one more element; a refused walk has nothing else
+unfoldable pub advanced : Walk → Step → Walk
+advanced w t =
+    if not (eqb (t .refusal .number) 0) then atWalk (t .refusal) 0 0
+    else if t .found then atWalk noRefusal (t .next .at) (w .count + 1)
+    else atWalk noRefusal (t .next .at) (w .count)
+
+abbrev pub more : ℕ → Walk → Bool
+more end w = eqb (w .refusal .number) 0 && ltb (w .at) end
+
+unfoldable pub judgeStep : List ℕ → Kind → Walk → Walk
+judgeStep s kind w = advanced w (stepAt s kind (w .at))
+
+-- all elements from the front; the first refusal stops
+unfoldable pub judge : List ℕ → Kind → Walk
+judge s kind = repeatWhile (length s) (more (length s)) (judgeStep s kind) (atWalk noRefusal 3 0)
+
+abbrev pub refusedReport : ℕ → Report
+refusedReport number = record { refusal = refused number 0; kind = EventKind; dialog = 0; count = 0 }
+
+unfoldable pub judgedReport : List ℕ → Kind → Report
+judgedReport s kind =
+    record { refusal = judge s kind .refusal; kind = kind; dialog = getD s 2 0; count = judge s kind .count }
+
+-- "Group destination" (11); "Frame under 3 or over 2,304 octets" (1); "Category not 10; action not .. 1 or 3 (reports)" (2)
+unfoldable pub readReport : List ℕ → List ℕ → Report
+readReport destination s =
+    if isGroup destination then refusedReport groupDestination
+    else if ltb (length s) shortestFrame then refusedReport frameLength
+    else if ltb longestFrame (length s) then refusedReport frameLength
+    else if not (eqb (getD s 0 0) category) then refusedReport frameHeader
+    else if eqb (getD s 1 0) (reportAction EventKind) then judgedReport s EventKind
+    else if eqb (getD s 1 0) (reportAction Diagnostic) then judgedReport s Diagnostic
+    else refusedReport frameHeader
+
+-- ---- the elements that the cursor hands out, from the front to the end or to the first refusal
+
+pub record Reading : Type 0 where
+  pub refusal : Refusal
+  pub at : ℕ
+  pub elements : List Element
+
+abbrev pub reading : Refusal → ℕ → List Element → Reading
+reading refusal at elements = record { refusal = refusal; at = at; elements = elements }
+
+unfoldable pub gathered : Reading → Step → Reading
+gathered w t =
+    if not (eqb (t .refusal .number) 0) then reading (t .refusal) 0 []
+    else if t .found then reading noRefusal (t .next .at) (w .elements ++ (t .element ∷ []))
+    else reading noRefusal (t .next .at) (w .elements)
+
+abbrev pub unread : ℕ → Reading → Bool
+unread end w = eqb (w .refusal .number) 0 && ltb (w .at) end
+
+unfoldable pub readStep : List ℕ → Kind → Reading → Reading
+readStep s kind w = gathered w (stepAt s kind (w .at))
+
+unfoldable pub readElements : List ℕ → Kind → Reading
+readElements s kind = repeatWhile (length s) (unread (length s)) (readStep s kind) (reading noRefusal 3 [])
+
+-- what the judgement of a frame sees of them: proofs/Laws.antt has judge s kind ≡ viewed (readElements s kind)
+abbrev pub viewed : Reading → Walk
+viewed w = atWalk (w .refusal) (w .at) (length (w .elements))

@@ -1,0 +1,393 @@
+// Report frames, read (document 01, causes 11, 1, 2, then 4, 5, 17, 14 and 7): a frame is judged
+// whole, and a cursor hands out its elements.
+use octets::Kind;
+use octets::Refusal;
+use octets::address_at;
+use octets::causes;
+use octets::good_time;
+use octets::is_group;
+use octets::numbers;
+use octets::octet;
+use octets::pair_at;
+use octets::piece_end;
+use octets::size;
+use subelements::Subelements;
+use subelements::walk_edges;
+use units::TimeUnits;
+ghost use mathlib.Core.Path.{_≡_};
+ghost use Prim.Native.Nat.{_+_, _^_, _≤_, _<_};
+ghost use lib.ListN.{length, getD};
+ghost use Rattle.octets.specs.Elements.{pieceEnd};
+ghost use Rattle.report_reader.specs.Reader.{part, noEvent, eventAt, plainElement, refusedStep, skippedStep, plainStep, loggedStep, bareStep, transitionStep, eventStep, walkedStep, diagnosticStep, ownStep, stepAt, atWalk, advanced, refusedReport, judgedReport, readReport};
+ghost use Rattle.report_reader.specs.Reader.{judge as Reader·judge};
+
+// A reported transition; the signals are source RCPI, source RSNI, target RCPI and target RSNI.
+pub struct Event {
+    pub time: [u8; 9],
+    pub source: [u8; 6],
+    pub target: [u8; 6],
+    pub took: TimeUnits,
+    pub reason: u8,
+    pub result: u16,
+    pub signals: [u8; 4],
+}
+
+// The fields of a report element: how many octets stand behind its status, how many subelements
+// they are (in a diagnostic), and whether they are a transition (else it is all zeros).
+pub struct Element {
+    pub token: u8,
+    pub ty: u8,
+    pub status: u8,
+    pub length: usize,
+    pub subs: usize,
+    pub logged: bool,
+    pub event: Event,
+}
+
+// A position in a frame, where an element starts.
+pub struct Cursor {
+    pub at: usize,
+}
+
+// What stands at a cursor: refused; or an element of the frame's own ID, with the position of what
+// stands behind its status; or one of another ID (not found). Next is behind it.
+pub struct Step {
+    pub refusal: Refusal,
+    pub found: bool,
+    pub element: Element,
+    pub rest: usize,
+    pub next: Cursor,
+}
+
+// How far a frame is judged: refused, or the next position and the number of elements.
+pub struct Walk {
+    pub refusal: Refusal,
+    pub at: usize,
+    pub count: usize,
+}
+
+// A frame: refused, or what it reports, its dialog token and the number of its elements.
+pub struct Report {
+    pub refusal: Refusal,
+    pub kind: Kind,
+    pub dialog: u8,
+    pub count: usize,
+}
+
+// ---- one element
+
+fn no_event() -> Event
+    ensures { λ r. ⌜ r ≡ noEvent ⌝ }
+{
+    Event {
+        time: [0; 9],
+        source: [0; 6],
+        target: [0; 6],
+        took: TimeUnits(0),
+        reason: 0,
+        result: 0,
+        signals: [0; 4],
+    }
+}
+
+fn time_at(s: &[u8], at: usize) -> [u8; 9]
+    requires { ⌜ at + 9 ≤ length (now s) ⌝ }
+    ensures { λ r. ⌜ r ≡ part (now (s .entry)) at 9 ⌝ }
+{
+    [
+        s[at],
+        s[at + 1],
+        s[at + 2],
+        s[at + 3],
+        s[at + 4],
+        s[at + 5],
+        s[at + 6],
+        s[at + 7],
+        s[at + 8],
+    ]
+}
+
+fn signals_at(s: &[u8], at: usize) -> [u8; 4]
+    requires { ⌜ at + 4 ≤ length (now s) ⌝ }
+    ensures { λ r. ⌜ r ≡ part (now (s .entry)) at 4 ⌝ }
+{
+    [s[at], s[at + 1], s[at + 2], s[at + 3]]
+}
+
+// The nine octets of time and the 21 of transition at a position.
+fn event_at(s: &[u8], at: usize) -> Event
+    requires { ⌜ at + 30 ≤ length (now s) ⌝ }
+    ensures { λ r. ⌜ r ≡ eventAt (now (s .entry)) at ⌝ }
+{
+    Event {
+        time: time_at(s, at),
+        source: address_at(s, at + 9),
+        target: address_at(s, at + 15),
+        took: TimeUnits(pair_at(s, at + 21)),
+        reason: octet(s, at + 23),
+        result: pair_at(s, at + 24),
+        signals: signals_at(s, at + 26),
+    }
+}
+
+fn refused(number: u8, place: usize) -> Step
+    ensures { λ r. ⌜ r ≡ refusedStep number place ⌝ }
+{
+    Step {
+        refusal: Refusal::new(number, place),
+        found: false,
+        element: Element {
+            token: 0,
+            ty: 0,
+            status: 0,
+            length: 0,
+            subs: 0,
+            logged: false,
+            event: no_event(),
+        },
+        rest: 0,
+        next: Cursor { at: 0 },
+    }
+}
+
+// Another ID: passed over.
+fn skipped(next: usize) -> Step
+    ensures { λ r. ⌜ r ≡ skippedStep next ⌝ }
+{
+    let mut step = refused(0, 0);
+    step.next.at = next;
+    step
+}
+
+// An element with n octets of body.
+fn plain(s: &[u8], at: usize, n: usize, subs: usize) -> Step
+    requires { ⌜ (3 ≤ n) × (at + 2 + n ≤ length (now s)) ⌝ }
+    ensures { λ r. ⌜ r ≡ plainStep (now (s .entry)) at n subs ⌝ }
+{
+    Step {
+        refusal: Refusal::none(),
+        found: true,
+        element: Element {
+            token: octet(s, at + 2),
+            ty: octet(s, at + 3),
+            status: octet(s, at + 4),
+            length: n - 3,
+            subs,
+            logged: false,
+            event: no_event(),
+        },
+        rest: at + 5,
+        next: Cursor { at: at + 2 + n },
+    }
+}
+
+// An element with a transition.
+fn logged(s: &[u8], at: usize) -> Step
+    requires { ⌜ at + 35 ≤ length (now s) ⌝ }
+    ensures { λ r. ⌜ r ≡ loggedStep (now (s .entry)) at ⌝ }
+{
+    Step {
+        refusal: Refusal::none(),
+        found: true,
+        element: Element {
+            token: octet(s, at + 2),
+            ty: octet(s, at + 3),
+            status: octet(s, at + 4),
+            length: 30,
+            subs: 0,
+            logged: true,
+            event: event_at(s, at + 5),
+        },
+        rest: at + 5,
+        next: Cursor { at: at + 35 },
+    }
+}
+
+// An event report that is not Successful has nothing more.
+fn bare_step(s: &[u8], at: usize, n: usize) -> Step
+    requires { ⌜ (3 ≤ n) × (at + 2 + n ≤ length (now s)) ⌝ }
+    ensures { λ r. ⌜ r ≡ bareStep (now (s .entry)) at n ⌝ }
+{
+    if n == 3 {
+        return plain(s, at, n, 0);
+    }
+    refused(causes::REPORT_BODY, at)
+}
+
+// A Successful report of event type 0.
+fn transition_step(s: &[u8], at: usize, n: usize) -> Step
+    requires { ⌜ (3 ≤ n) × (at + 2 + n ≤ length (now s)) ⌝ }
+    ensures { λ r. ⌜ r ≡ transitionStep (now (s .entry)) at n ⌝ }
+{
+    if n == 3 {
+        return plain(s, at, n, 0);
+    }
+    if n != 33 {
+        return refused(causes::REPORT_BODY, at);
+    }
+    if !good_time(time_at(s, at + 5)) {
+        return refused(causes::TIME_FIELD, at);
+    }
+    logged(s, at)
+}
+
+fn event_step(s: &[u8], at: usize, n: usize) -> Step
+    requires { ⌜ (3 ≤ n) × (at + 2 + n ≤ length (now s)) ⌝ }
+    ensures { λ r. ⌜ r ≡ eventStep (now (s .entry)) at n ⌝ }
+{
+    if octet(s, at + 4) != numbers::SUCCESSFUL {
+        return bare_step(s, at, n);
+    }
+    let ty = octet(s, at + 3);
+    match ty {
+        0 => transition_step(s, at, n),
+        1..=255 => plain(s, at, n, 0),
+    }
+}
+
+fn walked_step(s: &[u8], at: usize, n: usize, w: Subelements) -> Step
+    requires { ⌜ (3 ≤ n) × (at + 2 + n ≤ length (now s)) ⌝ }
+    ensures { λ r. ⌜ r ≡ walkedStep (now (s .entry)) at n w ⌝ }
+{
+    if w.refusal.number != 0 {
+        return refused(w.refusal.number, w.refusal.place);
+    }
+    plain(s, at, n, w.count)
+}
+
+fn diagnostic_step(s: &[u8], at: usize, n: usize) -> Step
+    requires { ⌜ (3 ≤ n) × (at + 2 + n ≤ length (now s)) ⌝ }
+    ensures { λ r. ⌜ r ≡ diagnosticStep (now (s .entry)) at n ⌝ }
+{
+    walked_step(s, at, n, walk_edges(s, at + 5, at + 2 + n))
+}
+
+// An element of the frame's own ID, with n octets of body.
+fn own_step(s: &[u8], kind: Kind, at: usize, n: usize) -> Step
+    requires { ⌜ at + 2 + n ≤ length (now s) ⌝ }
+    ensures { λ r. ⌜ r ≡ ownStep (now (s .entry)) kind at n ⌝ }
+{
+    if n < 3 {
+        return refused(causes::ELEMENT_LENGTH, at);
+    }
+    if numbers::CANCELLED < octet(s, at + 4) {
+        return refused(causes::REPORT_BODY, at);
+    }
+    match kind {
+        Kind::Event => event_step(s, at, n),
+        Kind::Diagnostic => diagnostic_step(s, at, n),
+    }
+}
+
+impl Cursor {
+    // The first element's.
+    pub fn first() -> Cursor
+        ensures { λ r. ⌜ r .at ≡ 3 ⌝ }
+    {
+        Cursor {
+            at: numbers::SHORTEST_FRAME,
+        }
+    }
+
+    // What stands at the cursor, in a report frame of a kind. Past the frame's end that is refusal 4.
+    pub fn next(self, s: &[u8], kind: Kind) -> Step
+        ensures { λ r. ⌜ r ≡ stepAt (now (s .entry)) kind (self .at) ⌝ }
+    {
+        let at = self.at;
+        let end = piece_end(s, at, s.len());
+        if end == 0 {
+            return refused(causes::ELEMENT_EDGE, at);
+        }
+        if octet(s, at) != kind.report_id() {
+            return skipped(end);
+        }
+        own_step(s, kind, at, size(s, at + 1))
+    }
+}
+
+// ---- a frame
+
+fn walk_of(refusal: Refusal, at: usize, count: usize) -> Walk
+    ensures { λ r. ⌜ r ≡ atWalk refusal at count ⌝ }
+{
+    Walk { refusal, at, count }
+}
+
+// Behind one more element.
+fn advance(w: Walk, step: Step) -> Walk
+    requires { ⌜ w .count + 1 < 2 ^ 64 ⌝ }
+    ensures { λ r. ⌜ r ≡ advanced w step ⌝ }
+{
+    if step.refusal.number != 0 {
+        return walk_of(step.refusal, 0, 0);
+    }
+    if step.found {
+        return walk_of(Refusal::none(), step.next.at, w.count + 1);
+    }
+    walk_of(Refusal::none(), step.next.at, w.count)
+}
+
+fn judge(s: &[u8], kind: Kind) -> Walk
+    ensures { λ r. ⌜ r ≡ Reader·judge (now (s .entry)) kind ⌝ }
+{
+    let mut w = walk_of(Refusal::none(), 3, 0);
+    while w.at < s.len() {
+        let cursor = Cursor { at: w.at };
+        w = advance(w, cursor.next(s, kind));
+        if w.refusal.number != 0 {
+            return w;
+        }
+    }
+    w
+}
+
+fn refused_report(number: u8) -> Report
+    ensures { λ r. ⌜ r ≡ refusedReport number ⌝ }
+{
+    Report {
+        refusal: Refusal::new(number, 0),
+        kind: Kind::Event,
+        dialog: 0,
+        count: 0,
+    }
+}
+
+// A frame of a kind, by its elements.
+fn judged(s: &[u8], kind: Kind) -> Report
+    ensures { λ r. ⌜ r ≡ judgedReport (now (s .entry)) kind ⌝ }
+{
+    let w = judge(s, kind);
+    let refusal = w.refusal;
+    Report {
+        refusal,
+        kind,
+        dialog: octet(s, 2),
+        count: w.count,
+    }
+}
+
+// Judges a whole frame, given its destination.
+pub fn read_report(destination: [u8; 6], s: &[u8]) -> Report
+    ensures { λ r. ⌜ r ≡ readReport destination (now (s .entry)) ⌝ }
+{
+    if is_group(destination) {
+        return refused_report(causes::GROUP_DESTINATION);
+    }
+    if s.len() < numbers::SHORTEST_FRAME {
+        return refused_report(causes::FRAME_LENGTH);
+    }
+    if numbers::LONGEST_FRAME < s.len() {
+        return refused_report(causes::FRAME_LENGTH);
+    }
+    if octet(s, 0) != numbers::CATEGORY {
+        return refused_report(causes::FRAME_HEADER);
+    }
+    let action = octet(s, 1);
+    if action == Kind::Event.report_action() {
+        return judged(s, Kind::Event);
+    }
+    if action == Kind::Diagnostic.report_action() {
+        return judged(s, Kind::Diagnostic);
+    }
+    refused_report(causes::FRAME_HEADER)
+}
