@@ -6,6 +6,7 @@ mod dialogs;
 mod event_requests;
 mod lists;
 
+pub use counts::within;
 pub use diagnostics::take_diagnostics;
 pub use event_requests::take_events;
 pub use lists::bad_list;

@@ -1,4 +1,7 @@
 // A station (document 01: a gate): its identity, its log and its requesters, and the calls on it.
+mod frames;
+mod logging;
+mod reporting;
 mod stations;
 
 use events::Log;

@@ -24,7 +24,7 @@ refused-with-requires c κs = search needs
 returns : tie.Need-returns
 returns c =
     let a = c .before .before .before .before .before .args in
-    c .refused-with .ensures ∙ ap (λ (g : Station). result g (refusedFor requesterList) []) (c .before .nobody .ensures)
+    c .refused-with .ensures [] ∙ ap (λ (g : Station). result g (refusedFor requesterList) []) (c .before .nobody .ensures)
     ∙ setup-bad-list (a .identity .now) (a .list .now) (sym (c .before .before .before .bad-list .ensures) ∙ c .before .before .if1 .taken)
 
 good-identity-requires : tie.Need-good-identity-requires
@@ -39,7 +39,7 @@ refused-with-requires-2 c κs = search needs
 returns-2 : tie.Need-returns-2
 returns-2 c =
     let a = c .before .before .before .before .before .before .before .args in
-    c .refused-with2 .ensures ∙ ap (λ (g : Station). result g (refusedFor identity) []) (c .before .nobody2 .ensures)
+    c .refused-with2 .ensures [] ∙ ap (λ (g : Station). result g (refusedFor identity) []) (c .before .nobody2 .ensures)
     ∙ setup-bad-identity (a .identity .now) (a .list .now) (sym (c .before .before .before .before .before .bad-list .ensures) ∙ c .before .before .before .before .if1 .left) (sym (c .before .before .before .good-identity .ensures) ∙ not-true _ (c .before .before .if2 .taken))
 
 empty-log-requires : tie.Need-empty-log-requires
