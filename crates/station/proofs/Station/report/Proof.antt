@@ -1,55 +1,54 @@
+-- `station::Station::report` meets its contract.
+-- Assumes nothing.
+use mathlib.Core.Path.{ap, _∙_}
+use native.Mathlib.Omega.{arith}
+use Rattle.model.specs.Stations.{reportCall, act, readingOf, step}
+use Rattle.requesters.specs.Views.{viewRequester, viewServed}
+use Rattle.station.specs.Views.{view}
+use Rattle.station.proofs.CallLaws.{call-unlisted, call-served}
 use borrow.Author.Needs.{needs}
 use Rattle.station.proofs.Station.report.Statement.{statement}
 use Rattle.station.proofs.Station.report.Tie as tie
-use Rattle.station.proofs.Station.report.Reads as reads
-use Rattle.station.proofs.Station.report.Lts as lts
-use Rattle.requesters.proofs.give_report.Reads as give-report-reads
-use Rattle.station.proofs.stations.listed.Reads as listed-reads
-use Rattle.station.proofs.stations.put_back.Reads as put-back-reads
-use Rattle.station.proofs.stations.refused_with.Reads as refused-with-reads
-use Rattle.station.proofs.stations.requester_at.Reads as requester-at-reads
-use Rattle.station.proofs.stations.slot_of.Reads as slot-of-reads
-use Rattle.station.proofs.stations.ticked.Reads as ticked-reads
 
--- src/reporting.rt:30:13
 ticked-requires : tie.Need-ticked-requires
 ticked-requires c κs = search needs
 
--- src/reporting.rt:31:13
 slot-of-requires : tie.Need-slot-of-requires
 slot-of-requires c κs = search needs
 
--- src/reporting.rt:32:12
 listed-requires : tie.Need-listed-requires
 listed-requires c κs = search needs
 
--- src/reporting.rt:33:13
 refused-with-requires : tie.Need-refused-with-requires
 refused-with-requires c κs = search needs
 
--- src/reporting.rt:33:13
 returns : tie.Need-returns
-returns c = ?
+unfolding step act readingOf reportCall
+returns c =
+    let a = c .before .before .before .before .before .before .args in let g = view (c .before .before .before .before .ticked .result) in
+    c .refused-with .ensures _
+    ∙ call-unlisted (a .source) _ (a .buf .now) g (c .before .before .before .slot-of .result) (c .before .before .before .slot-of .ensures) (omega (arith, c .before .before .listed .ensures, c .before .if1 .taken))
+    ∙ ap (reportCall (a .source) (a .kind) (a .buf .now)) (c .before .before .before .before .ticked .ensures)
 
--- src/reporting.rt:37:13
 requester-at-requires : tie.Need-requester-at-requires
-requester-at-requires c κs = search needs
+requester-at-requires c κs = omega (arith, c .before .before .before .listed .ensures, c .before .before .if1 .left)
 
--- src/reporting.rt:38:13
 give-report-requires : tie.Need-give-report-requires
 give-report-requires c κs = search needs
 
--- src/reporting.rt:39:9
 put-back-requires : tie.Need-put-back-requires
-put-back-requires c κs = search needs
+put-back-requires c κs = omega (arith, c .before .before .before .before .before .before .before .before .before .listed .ensures, c .before .before .before .before .before .before .before .before .if1 .left)
 
--- src/reporting.rt:21:5
 same-length : tie.Need-same-length
 same-length c = search needs
 
--- src/reporting.rt:21:5
 returns-2 : tie.Need-returns-2
-returns-2 c = ?
+unfolding step act readingOf reportCall view
+returns-2 c =
+    let a = c .before .before .before .before .before .before .before .before .before .before .before .before .before .before .args in let g = view (c .before .before .before .before .before .before .before .before .before .before .before .before .ticked .result) in let r = viewRequester (c .before .before .before .before .before .before .requester-at .result) in
+    c .put-back .ensures _
+    ∙ call-served (a .source) _ (a .buf .now) g (c .before .before .before .before .before .before .before .before .before .before .before .slot-of .result) (c .before .before .before .before .before .before .before .before .before .before .before .slot-of .ensures) r (viewServed (c .before .before .before .give-report .result) _) (c .before .before .before .before .before .before .requester-at .ensures) (c .before .before .before .give-report .ensures)
+    ∙ ap (reportCall (a .source) (a .kind) (a .buf .now)) (c .before .before .before .before .before .before .before .before .before .before .before .before .ticked .ensures)
 
 pub report-spec : {M : Type 1} → statement M
 report-spec =

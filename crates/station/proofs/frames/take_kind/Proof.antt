@@ -1,34 +1,32 @@
+-- `station::frames::take_kind` meets its contract.
+-- Assumes nothing.
+use Rattle.station.proofs.CallLaws.{take-event, take-diagnostic}
+use Rattle.requesters.specs.Views.{viewRequester}
 use borrow.Author.Needs.{needs}
 use Rattle.station.proofs.frames.take_kind.Statement.{statement}
 use Rattle.station.proofs.frames.take_kind.Tie as tie
-use Rattle.station.proofs.frames.take_kind.Reads as reads
-use Rattle.station.proofs.frames.take_kind.Lts as lts
-use Rattle.slots.proofs.take_diagnostics.Reads as take-diagnostics-reads
-use Rattle.slots.proofs.take_events.Reads as take-events-reads
 
--- src/frames.rt:37:21
 enum-told : tie.Need-enum-told
 enum-told c = search needs
 
--- src/frames.rt:37:21
 take-events-requires : tie.Need-take-events-requires
 take-events-requires c κs = search needs
 
--- src/frames.rt:43:26
 enum-told-2 : tie.Need-enum-told-2
 enum-told-2 c = search needs
 
--- src/frames.rt:43:26
 take-diagnostics-requires : tie.Need-take-diagnostics-requires
 take-diagnostics-requires c κs = search needs
 
--- src/frames.rt:27:1
 returns : tie.Need-returns
-returns c = ?
+unfolding viewRequester
+returns c =
+    λ log e. let a = c .before .before .before .before .before .before .args in take-event (a .reading .0) log (a .q) (viewRequester (a .r)) (a .logged) _ (c .before .enum-told .given .1) e (c .take-events .ensures)
 
--- src/frames.rt:27:1
 returns-2 : tie.Need-returns-2
-returns-2 c = ?
+unfolding viewRequester
+returns-2 c =
+    λ log e. let a = c .before .before .before .before .before .before .args in take-diagnostic (a .reading .0) log (a .q) (viewRequester (a .r)) _ (c .before .enum-told2 .given .1) (c .take-diagnostics .ensures)
 
 pub take-kind-spec : {M : Type 1} → statement M
 take-kind-spec =
