@@ -2,8 +2,7 @@
 -- Assumes nothing.
 use Prim.Native.Nat.{ℕ}
 use mathlib.Core.Path.{_≡_, refl}
-use mathlib.Core.Bool.{Bool, true, false}
-use mathlib.Core.List.{List, [], _∷_, _++_}
+use mathlib.Core.List.{List, [], _∷_}
 use mathlib.Core.Option.{Option, none, some}
 use lib.ListN.{replicate}
 use Rattle.laws.specs.Choice.{if_then_else_}
@@ -19,6 +18,7 @@ use Rattle.events.specs.Choice.{firstOf, nextPlace}
 use Rattle.reports.specs.Reports.{reportElement}
 use Rattle.identities.specs.Identity.{stands, passRow, goodFrom, goodIdentity}
 use Rattle.model.specs.Requesters.{holds, repeated, hasGroup, badList, newRequester, find, put}
+use Rattle.model.specs.Dialogs.{replace}
 use Rattle.model.specs.Fill.{fillWith, fill, nextFrame}
 use Rattle.model.specs.Diagnostics.{isLate, onTime, unlessOver, dropLate}
 use Rattle.model.specs.Events.{eventTreatment, openEvents, takeEvents, nextEventPlace, without, reportFront, treatFront, nextFrom, nextEvent, unlessDone}
@@ -53,11 +53,11 @@ program = 10 ∷ 0 ∷ 7 ∷ 78 ∷ 6 ∷ 5 ∷ 0 ∷ 4 ∷ 3 ∷ 1 ∷ 1 ∷ []
 
 reported : reply (run (setup five (console ∷ []) .station) (frame 10 console console program ∷ [])) (report 20 console Event (replicate 260 255))
     ≡ record { answer = written 8; buffer = 10 ∷ 1 ∷ 7 ∷ 79 ∷ 3 ∷ 5 ∷ 0 ∷ 0 ∷ replicate 252 255 }
-unfolding five console program reply run step act readingOf tick tickRequester setup goodIdentity goodFrom passRow stands pieceEnd badList repeated holds hasGroup newRequester same find put frameCall serveListed serveFound withRequester takeRequest takeKind readRequest readKind requestOf walkElements elementStep ownStep withElement badToken hasToken subelementsOf walk Subelements·step wholeStep repeatWhile takeEvents openEvents reportCall giveReport giveKind ifOutstanding giveEvents nextFrame fill fillWith nextEvent nextFrom eventTreatment treatFront nextEventPlace nextPlace firstOf reportFront without unlessDone reportElement dropLate if_then_else_
+unfolding five console program reply run step act readingOf tick tickRequester setup goodIdentity goodFrom passRow stands pieceEnd badList repeated holds hasGroup newRequester same find put frameCall serveListed serveFound withRequester takeRequest takeKind readRequest readKind requestOf walkElements elementStep ownStep withElement badToken hasToken subelementsOf walk Subelements·step wholeStep repeatWhile takeEvents replace openEvents reportCall giveReport giveKind ifOutstanding giveEvents nextFrame fill fillWith nextEvent nextFrom eventTreatment treatFront nextEventPlace nextPlace firstOf reportFront without unlessDone reportElement dropLate if_then_else_
 reported = refl
 
 -- and then nothing is left of it
 over : reply (run (setup five (console ∷ []) .station) (frame 10 console console program ∷ report 20 console Event (replicate 260 255) ∷ [])) (report 30 console Event (replicate 260 255))
     ≡ record { answer = nothing; buffer = replicate 260 255 }
-unfolding five console program reply run step act readingOf tick tickRequester setup goodIdentity goodFrom passRow stands pieceEnd badList repeated holds hasGroup newRequester same find put frameCall serveListed serveFound withRequester takeRequest takeKind readRequest readKind requestOf walkElements elementStep ownStep withElement badToken hasToken subelementsOf walk Subelements·step wholeStep repeatWhile takeEvents openEvents reportCall giveReport giveKind ifOutstanding giveEvents nextFrame fill fillWith nextEvent nextFrom eventTreatment treatFront nextEventPlace nextPlace firstOf reportFront without unlessDone reportElement dropLate if_then_else_
+unfolding five console program reply run step act readingOf tick tickRequester setup goodIdentity goodFrom passRow stands pieceEnd badList repeated holds hasGroup newRequester same find put frameCall serveListed serveFound withRequester takeRequest takeKind readRequest readKind requestOf walkElements elementStep ownStep withElement badToken hasToken subelementsOf walk Subelements·step wholeStep repeatWhile takeEvents replace openEvents reportCall giveReport giveKind ifOutstanding giveEvents nextFrame fill fillWith nextEvent nextFrom eventTreatment treatFront nextEventPlace nextPlace firstOf reportFront without unlessDone reportElement dropLate if_then_else_
 over = refl

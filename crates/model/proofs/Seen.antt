@@ -17,11 +17,11 @@ use Rattle.octets.proofs.AddressLaws.{same-refl, same-true}
 use Rattle.requests.specs.declared.Request.{Request}
 use Rattle.events.specs.declared.Entry.{Entry}
 use Rattle.events.specs.declared.Transition.{Transition}
-use Rattle.model.specs.Model.{Address, logCapacity, Requester, Station, Call, clock, logging, frame, report, roam, change, accepted, Result}
+use Rattle.model.specs.Model.{Address, Requester, Station, Call, clock, logging, frame, report, roam, change, accepted, Result}
 use Rattle.requests.specs.Requests.{readRequest}
-use Rattle.events.specs.Log.{pushed, entryOf}
+use Rattle.events.specs.Log.{capacity, pushed, entryOf}
 use Rattle.model.specs.Requesters.{badList, newRequester, find, put}
-use Rattle.model.specs.Stations.{refusedFor, tickRequester, tick, logRequester, logEntry, logCall, Served, served, withRequester, serveFound, serveListed, takeKind, takeRequest, frameCall, giveEvents, giveDiagnostics, ifOutstanding, octetsOf, giveKind, giveReport, reportCall, renameWith, rename, act, readingOf, step}
+use Rattle.model.specs.Stations.{refusedFor, tickRequester, tick, lowerRequester, logRequester, logEntry, logCall, Served, served, withRequester, serveFound, serveListed, takeKind, takeRequest, frameCall, giveEvents, giveDiagnostics, ifOutstanding, octetsOf, giveKind, giveReport, reportCall, renameWith, rename, act, readingOf, step}
 use Rattle.model.specs.Runs.{sender, Reply, reply, toSender}
 use Rattle.model.specs.Independence.{quietFor, quiet}
 
@@ -105,7 +105,7 @@ tickSeen reading v = onSlot (tickRequester reading) v
 logSeen : ℕ → Transition → Seen → Seen
 logSeen reading e v =
     if not (goodTime (e .time)) then v
-    else record { identity = v .identity; log = pushed logCapacity (v .log) (entryOf reading e); slot = Option·map (logRequester (v .log)) (v .slot) }
+    else record { identity = v .identity; log = pushed capacity (v .log) (entryOf reading e); slot = Option·map (logRequester (v .log)) (v .slot) }
 
 servedSeen : Address → Address → (Requester → Served) → Seen → Seen
 servedSeen s a serve v = if same a s then onSlot (λ r. serve r .requester) v else v
@@ -136,7 +136,7 @@ unfolding tickRequester
 tick-keeps reading r = refl
 
 log-keeps : (log : List Entry) → Keeps (logRequester log)
-unfolding logRequester
+unfolding logRequester lowerRequester
 log-keeps log r = either (λ (x : Requester). x .address ≡ r .address) _ _ _ (λ _. refl) (λ _. refl)
 
 kind-keeps : (reading : ℕ) (log : List Entry) (q : Request) (r : Requester) (k : Kind) → takeKind reading log q r k .address ≡ r .address
@@ -179,7 +179,7 @@ seen-log : (s : Address) (reading : ℕ) (e : Transition) (g : Station) → seen
 unfolding seen logCall logEntry logSeen
 seen-log s reading e g =
     apply-if (λ (x : Result). seen s (x .station)) (not (goodTime (e .time))) _ _
-    ∙ ap (λ (o : Option Requester). if not (goodTime (e .time)) then seen s g else record { identity = g .identity; log = pushed logCapacity (g .log) (entryOf reading e); slot = o })
+    ∙ ap (λ (o : Option Requester). if not (goodTime (e .time)) then seen s g else record { identity = g .identity; log = pushed capacity (g .log) (entryOf reading e); slot = o })
     (find-map (logRequester (g .log)) (log-keeps (g .log)) s (g .requesters))
 
 module _ (s a : Address) (serve : Requester → Served) (b : List ℕ) (g : Station) (keeps : ServeKeeps serve) where

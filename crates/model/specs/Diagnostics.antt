@@ -16,6 +16,7 @@ use Rattle.model.specs.declared.Diagnostic.{Diagnostic}
 use Rattle.model.specs.declared.Treatment.{Treatment}
 use Rattle.model.specs.declared.Treatment.the-variants.{Report, Incapable, Cancel, Identity}
 use Rattle.model.specs.Model.{DiagnosticRequest}
+use Rattle.model.specs.Dialogs.{replace}
 use Rattle.model.specs.Fill.{Piece}
 use Rattle.reports.specs.Reports.{reportElement}
 
@@ -46,7 +47,7 @@ dropLate reading (some r) = unlessOver (r .dialog) (r .accepted) (onTime reading
 
 -- ---- an accepted frame
 
-unfoldable pub isCancel : Treatment → Bool
+abbrev pub isCancel : Treatment → Bool
 isCancel Report = false
 isCancel Incapable = false
 isCancel Cancel = true
@@ -63,18 +64,12 @@ diagnosticOf x = record { token = x .token; ty = x .ty; timeout = x .timeout }
 unfoldable pub diagnosticsOf : Request → List Diagnostic
 diagnosticsOf q = map diagnosticOf (take (q .count) (q .elements))
 
--- "An accepted frame with another dialog token replaces that console's request of the same kind. An accepted frame with the same token
--- while outstanding changes nothing."
-unfoldable pub replaceDiagnostics : ℕ → ℕ → List Diagnostic → Option DiagnosticRequest → Option DiagnosticRequest
-replaceDiagnostics reading dialog xs none = unlessOver dialog reading xs
-replaceDiagnostics reading dialog xs (some r) = if eqb dialog (r .dialog) then some r else unlessOver dialog reading xs
-
 -- "A diagnostic frame holding type 0 (Cancel) ends that console's diagnostic request, leaves no new one, and comes before the equal-token
 -- rule"
 unfoldable pub takeDiagnostics : ℕ → Request → Option DiagnosticRequest → Option DiagnosticRequest
 takeDiagnostics reading q o =
     if holdsCancel (diagnosticsOf q) then none
-    else replaceDiagnostics reading (q .dialog) (diagnosticsOf q) o
+    else replace (λ r. eqb (q .dialog) (r .dialog)) (unlessOver (q .dialog) reading (diagnosticsOf q)) o
 
 -- ---- a report
 

@@ -1,5 +1,6 @@
 pub mod Model
 pub mod Requesters
+pub mod Dialogs
 pub mod Fill
 pub mod Diagnostics
 pub mod Events

@@ -1,4 +1,4 @@
--- The model of a station (document 01: a gate): lists and records without capacities, calls, answers.
+-- The model of a station (document 01: a gate): its state, calls and answers, over lists and records.
 -- Assumes nothing.
 use Prim.Native.Nat.{ℕ}
 use mathlib.Core.List.{List}
@@ -10,11 +10,8 @@ use Rattle.events.specs.declared.Entry.{Entry}
 use Rattle.events.specs.declared.Transition.{Transition}
 use Rattle.model.specs.declared.Diagnostic.{Diagnostic}
 
--- "The log holds 64 events": its capacity
-abbrev pub logCapacity : ℕ
-logCapacity = 64
-
--- "Setup names the identity and one to four consoles."
+-- "Setup names the identity and one to four consoles." The log's 64 is the `capacity` of the log, and the eight elements of a request are
+-- its reader's (cause 9).
 abbrev pub requesterCapacity : ℕ
 requesterCapacity = 4
 

@@ -6,6 +6,7 @@ mod giving;
 mod reporting;
 
 pub use answering::Answered;
+pub use diagnostics::diagnostic_treatment;
 pub use giving::Filled;
 pub use giving::Next;
 pub use giving::Progress;

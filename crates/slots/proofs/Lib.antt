@@ -1,0 +1,5 @@
+pub mod TestLaws
+pub mod PartLaws
+pub mod DialogLaws
+pub mod DiagnosticLaws
+pub mod RequesterLaws

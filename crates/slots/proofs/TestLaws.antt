@@ -1,0 +1,24 @@
+-- Laws of a test of a list that is true where a test of one of its elements is. Loops look at the elements in order.
+-- Assumes nothing.
+use Prim.Native.Nat.{ℕ, _+_, _≤_, _<_}
+use mathlib.Core.Path.{_≡_}
+use mathlib.Core.Bool.{Bool, true, false, _||_}
+use mathlib.Core.List.{List, [], _∷_}
+use lib.ListN.{length, getD, drop, drop-of-length-le}
+use lib.Seq.{drop-cons}
+use native.Mathlib.Numerals.{add-one}
+
+-- ---- general
+
+-- `some-of` tests a list by `one`, which may look at the elements behind the one that it tests
+module _ {A : Type 0} (some-of : List A → Bool) (one : A → List A → Bool) (nil : some-of [] ≡ false)
+    (cons : (x : A) (xs : List A) → some-of (x ∷ xs) ≡ (one x xs || some-of xs)) (l : List A) (i : ℕ) where
+  module _ (d : A) (h : i < length l) where
+    pub some-here : one (getD l i d) (drop (i + 1) l) ≡ true → true ≡ some-of (drop i l)
+    some-here e = rw (drop-cons l i d h, cons, ← add-one i, e)
+
+    pub some-later : one (getD l i d) (drop (i + 1) l) ≡ false → some-of (drop (i + 1) l) ≡ some-of (drop i l)
+    some-later e = rw (drop-cons l i d h, cons, ← add-one i, e)
+
+  pub some-none : length l ≤ i → false ≡ some-of (drop i l)
+  some-none h = rw (drop-of-length-le l {i = i} h, nil)

@@ -1,0 +1,15 @@
+// The slots of a station's requesters (document 01: consoles): the list that names them, the one that
+// an address finds, and what a frame, a clock reading and the log make of them.
+mod counts;
+mod diagnostics;
+mod dialogs;
+mod event_requests;
+mod lists;
+
+pub use diagnostics::take_diagnostics;
+pub use event_requests::take_events;
+pub use lists::bad_list;
+pub use lists::find;
+pub use lists::lower_requesters;
+pub use lists::new_requesters;
+pub use lists::tick_requesters;

@@ -1,0 +1,105 @@
+-- Laws of the station's views, and of what setup does not refuse.
+-- Assumes nothing.
+use Prim.Native.Nat.{ℕ, _≤_, _<_}
+use mathlib.Core.Path.{_≡_, refl, sym, ap, _∙_}
+use mathlib.Core.Bool.{Bool, true, false}
+use mathlib.Core.List.{List, [], _∷_, _++_, map}
+use mathlib.Core.Option.{none, some}
+use lib.Dec.{eqb, ltb}
+use lib.ListN.{length, take, drop}
+use lib.Seq.{take-length, take-at}
+use borrow.Author.Tests.{ltb-false, eq-eqb, ne-eqb}
+use native.Mathlib.Omega.{arith}
+use Rattle.laws.specs.Choice.{if_then_else_}
+use Rattle.laws.proofs.Choice.{either}
+use Rattle.laws.proofs.Arrays.{map-take}
+use Rattle.octets.specs.Refusals.{requesterList, identity}
+use Rattle.events.specs.declared.Entry.{Entry}
+use Rattle.events.specs.declared.Log.{Log}
+use Rattle.requesters.specs.declared.Requester.{Requester as Code·Requester}
+use Rattle.model.specs.Model.{Address, Requester}
+use Rattle.model.specs.Model.{Station, accepted}
+use Rattle.identities.specs.Identity.{stands, passRow, goodFrom, goodIdentity}
+use Rattle.model.specs.Requesters.{badList, newRequester}
+use Rattle.requesters.specs.Views.{viewRequester}
+use Rattle.requesters.specs.Views.{viewIdentity}
+use Rattle.station.specs.Views.{view}
+use Rattle.model.specs.Stations.{result, refusedFor, nobody, newStation, setup, renameWith, rename}
+use Rattle.events.specs.Log.{logged}
+
+-- what is done to every requester of an array is done to those of the station
+pub views-within : (f : Requester → Requester) (n : ℕ) (xs ys : List Code·Requester) → map viewRequester ys ≡ map f (map viewRequester xs)
+    → map viewRequester (take n ys) ≡ map f (map viewRequester (take n xs))
+views-within f n xs ys e =
+    map-take viewRequester n ys
+    ∙ ap (take n) e
+    ∙ sym (map-take f n (map viewRequester xs))
+    ∙ ap (map f) (sym (map-take viewRequester n xs))
+
+-- a list that is not refused has at most four addresses
+pub good-length : (l : List Address) → badList l ≡ false → length l ≤ 4
+unfolding badList
+good-length l =
+    let P : Bool → Type 0 = λ (b : Bool). b ≡ false → length l ≤ 4 in
+    either P _ _ _ (λ _ e. absurd (let z : _≡_ {A = ℕ} 0 1 = cc in omega arith))
+    (λ _. either P _ _ _ (λ _ e. absurd (let z : _≡_ {A = ℕ} 0 1 = cc in omega arith)) (λ h _. ltb-false 4 (length l) h))
+
+-- an identity has an octet, and at most 252
+pub identity-some : (s : List ℕ) → goodIdentity s ≡ true → 0 < length s
+unfolding goodIdentity goodFrom passRow stands if_then_else_
+identity-some [] e = let z : _≡_ {A = ℕ} 0 1 = cc in absurd (omega arith)
+identity-some (x ∷ s) e = omega arith
+
+pub identity-most : (s : List ℕ) → goodIdentity s ≡ true → length s ≤ 252
+unfolding goodIdentity
+identity-most s =
+    let P : Bool → Type 0 = λ (b : Bool). b ≡ true → length s ≤ 252 in
+    either P _ _ _ (λ _ e. absurd (let z : _≡_ {A = ℕ} 0 1 = cc in omega arith)) (λ h _. ltb-false 252 (length s) h)
+
+-- the identity of a station by its length
+pub view-none : (n : ℕ) (o : List ℕ) → n ≡ 0 → viewIdentity n o ≡ none
+unfolding viewIdentity if_then_else_
+view-none n o e = rw (eq-eqb n 0 e)
+
+pub view-some : (n : ℕ) (o : List ℕ) → (n ≡ 0 → ⊥) → viewIdentity n o ≡ some (take n o)
+unfolding viewIdentity if_then_else_
+view-some n o e = rw (ne-eqb n 0 e)
+
+-- a station that names the requesters of a list
+pub view-named : (n : ℕ) (o : List ℕ) (log : Log) (rs : List Code·Requester) (l : List Address) → (n ≡ 0 → ⊥)
+    → map viewRequester (take (length l) rs) ≡ map newRequester l
+    → view (record { identity = o; length = n; log = log; requesters = rs; count = length l }) ≡ newStation (take n o) (logged log) l
+unfolding view
+view-named n o log rs l h e = rw (view-some n o h, e)
+
+-- an identity that was copied to the front of an array
+pub copied-front : (s o y : List ℕ) → y ≡ take (length s) s ++ drop (length s) o → take (length s) y ≡ s
+copied-front s o y e = ap (take (length s)) (e ∙ ap (λ (x : List ℕ). x ++ drop (length s) o) (take-length s)) ∙ take-at s (drop (length s) o) (length s) refl
+
+-- ---- the ladders, by the tests that lead to each step
+
+module _ (log : List Entry) (l : List Address) (g : Station) where
+  pub rename-bad : badList l ≡ true → result g (refusedFor requesterList) [] ≡ rename log l g
+  unfolding rename if_then_else_
+  rename-bad e = rw e
+
+  pub rename-none : badList l ≡ false → g .identity ≡ none → result g (refusedFor identity) [] ≡ rename log l g
+  unfolding rename renameWith if_then_else_
+  rename-none e f = rw (e, f)
+
+  pub rename-some : (i : List ℕ) → badList l ≡ false → g .identity ≡ some i → result (newStation i log l) accepted [] ≡ rename log l g
+  unfolding rename renameWith if_then_else_
+  rename-some i e f = rw (e, f)
+
+module _ (i : List ℕ) (l : List Address) where
+  pub setup-bad-list : badList l ≡ true → result nobody (refusedFor requesterList) [] ≡ setup i l
+  unfolding setup if_then_else_
+  setup-bad-list e = rw e
+
+  pub setup-bad-identity : badList l ≡ false → goodIdentity i ≡ false → result nobody (refusedFor identity) [] ≡ setup i l
+  unfolding setup if_then_else_
+  setup-bad-identity e f = rw (e, f)
+
+  pub setup-good : badList l ≡ false → goodIdentity i ≡ true → result (newStation i [] l) accepted [] ≡ setup i l
+  unfolding setup if_then_else_
+  setup-good e f = rw (e, f)

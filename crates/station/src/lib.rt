@@ -1,0 +1,22 @@
+// A station (document 01: a gate): its identity, its log and its requesters, and the calls on it.
+mod stations;
+
+use events::Log;
+use requesters::Answer;
+use requesters::Requester;
+
+// A station: its identity's first length octets (0: it has none), its log, and its first count
+// requesters; the other places are free.
+pub struct Station {
+    pub identity: [u8; 252],
+    pub length: usize,
+    pub log: Log,
+    pub requesters: [Requester; 4],
+    pub count: usize,
+}
+
+// What a call gives: the station after it, and the answer.
+pub struct Outcome {
+    pub station: Station,
+    pub answer: Answer,
+}
