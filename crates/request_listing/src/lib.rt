@@ -88,6 +88,7 @@ fn put_refusal(buf: &mut [u8], r: Refusal) -> usize
 // Lists a request at the front of a buffer; the text's length.
 pub fn list_request(r: Request, buf: &mut [u8]) -> usize
     ensures { λ n. ⌜ wrote n (now (buf .exit)) ≡ listed r (now (buf .entry)) ⌝ }
+    ensures { λ n. ⌜ n ≤ length (now (buf .exit)) ⌝ }
 {
     if buf.len() < LISTING_BUFFER {
         return 0;
@@ -105,6 +106,7 @@ pub fn list_request(r: Request, buf: &mut [u8]) -> usize
 // Reads a frame and lists it.
 pub fn list_frame(frame: &[u8], buf: &mut [u8]) -> usize
     ensures { λ n. ⌜ wrote n (now (buf .exit)) ≡ listFrame (now (frame .entry)) (now (buf .entry)) ⌝ }
+    ensures { λ n. ⌜ n ≤ length (now (buf .exit)) ⌝ }
 {
     list_request(read_request(frame), buf)
 }
