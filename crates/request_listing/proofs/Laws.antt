@@ -25,7 +25,7 @@ use Rattle.requests.specs.declared.Element.{Element}
 use Rattle.requests.specs.declared.Request.{Request}
 use Rattle.requests.specs.Elements.{pastElements}
 use Rattle.requests.proofs.Laws.{pieces-snoc}
-use Rattle.request_listing.specs.Listing.{frameWord, dialogWord, elementsWord, elementWord, tokenWord, typeWord, limitWord, timeoutWord, subsWord, refusedWord, atWord, newline, field, frameLine, limitField, elementLine, refusedLine, elementLines, listing, listed}
+use Rattle.request_listing.specs.Listing.{frameWord, dialogWord, elementsWord, elementWord, tokenWord, typeWord, limitWord, timeoutWord, subsWord, refusedWord, atWord, newline, field, frameLine, limitField, elementLine, refusedLine, elementLines, listing, listed, Within}
 
 -- ---- general: writers that write behind the first `at` octets, one after the other
 
@@ -266,9 +266,10 @@ module _ (r : Request) (s : List ℕ) where
       put-two o₁ o₂ s 0 (omega arith) k m y z first second ∙ put-front (o₁ ++ o₂) s fits ∙ rw (le-ltb (length s) 512 h, eq-eqb (r .refusal .number) 0 n)
 
   -- the answer lies within the buffer
-  pub listed-within : (n : ℕ) (y : List ℕ) → wrote n y ≡ listed r s → n ≤ length y
+  pub listed-within : (n : ℕ) (y : List ℕ) → wrote n y ≡ listed r s → Within n y
   unfolding listed
   listed-within n y e =
       let P : Written → Type 0 = λ (w : Written). w .answer ≤ length (w .octets) in
       let p : P (listed r s) = either P _ _ _ (λ _. omega arith) (λ _. omega (arith, length-append (listing r) (drop (length (listing r)) s))) in
-      subst P (sym e) p
+      let q : n ≤ length y = subst P (sym e) p in
+      (q, sym (length-take-le n y q))
