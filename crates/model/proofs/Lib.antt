@@ -1,3 +1,4 @@
 pub mod Seen
 pub mod Independence
 pub mod Cases
+pub mod Starred

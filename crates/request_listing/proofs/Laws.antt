@@ -1,11 +1,11 @@
 -- Laws of the listing: texts behind the first octets of a buffer, put one after the other, and how long each line is at most.
 -- Assumes nothing.
 use Prim.Native.Nat.{ℕ, suc, _+_, _-_, _*_, _^_, _≤_, _<_}
-use mathlib.Core.Path.{_≡_, refl, sym, ap, _∙_}
+use mathlib.Core.Path.{_≡_, refl, sym, ap, subst, _∙_}
 use mathlib.Core.Bool.{Bool, true, false, not}
 use mathlib.Core.List.{List, [], _∷_, _++_, append-assoc, append-nil}
 use lib.ListN.{length, getD, take, drop, length-append, length-take, take-append-drop}
-use lib.Seq.{drop-drop, length-take-le, take-suc, take-all}
+use lib.Seq.{drop-drop, length-take-le, take-suc, take-all, take-take}
 use lib.Dec.{ltb, eqb}
 use borrow.Author.Tests.{eq-eqb, ne-eqb, lt-ltb, le-ltb}
 use native.Mathlib.Numerals.{add-one}
@@ -13,7 +13,8 @@ use native.Mathlib.Nat.{add-zero, zero-add}
 use native.Mathlib.Omega.{arith}
 use Rattle.laws.specs.Choice.{if_then_else_}
 use Rattle.laws.specs.Buffers.{onto, pieces, Written, wrote, putAt}
-use Rattle.laws.proofs.Buffers.{put-at-fits, Putting, putting-at, putting-length, putting-within, putting-done, putting-end}
+use Rattle.laws.proofs.Choice.{either}
+use Rattle.laws.proofs.Buffers.{put-at-fits, Putting, putting-at, putting-length, putting-done, putting-end}
 use Rattle.octets.specs.declared.numbers.Kind.{Kind}
 use Rattle.octets.specs.declared.numbers.Kind.the-variants.{Event, Diagnostic}
 use Rattle.octets.specs.declared.refusals.Refusal.{Refusal}
@@ -24,7 +25,7 @@ use Rattle.requests.specs.declared.Element.{Element}
 use Rattle.requests.specs.declared.Request.{Request}
 use Rattle.requests.specs.Elements.{pastElements}
 use Rattle.requests.proofs.Laws.{pieces-snoc}
-use Rattle.request_listing.specs.Listing.{frameWord, dialogWord, elementsWord, elementWord, tokenWord, typeWord, limitWord, timeoutWord, subsWord, refusedWord, atWord, newline, field, frameLine, limitField, elementLine, refusedLine, elementLines, listing, listed}
+use Rattle.request_listing.specs.Listing.{frameWord, dialogWord, elementsWord, elementWord, tokenWord, typeWord, limitWord, timeoutWord, subsWord, refusedWord, atWord, newline, field, frameLine, limitField, elementLine, refusedLine, elementLines, listing, listed, Within}
 
 -- ---- general: writers that write behind the first `at` octets, one after the other
 
@@ -71,10 +72,17 @@ put-none s at h = putting-whole [] s at (omega arith) at s (putting-from [] s at
 pub put-front : (o s : List ℕ) → length o ≤ length s → putAt o 0 s ≡ wrote (length o) (onto o s)
 put-front o s h = put-at-fits o 0 s (omega arith) ∙ rw (zero-add (length o))
 
--- a writer that is held to its text only where it fits
-pub putting-if : {whole s buf : List ℕ} {at : ℕ} {rest : List ℕ} → Putting whole s buf at rest → (o r : List ℕ) → rest ≡ o ++ r → (n : ℕ) (y : List ℕ)
-    → (at + length o ≤ length buf → wrote n y ≡ putAt o at buf) → Putting whole s y n r
-putting-if p o r e n y does = putting-at p o r e n y (does (rw (putting-length p) (putting-within p o r e)))
+-- a writer that is held to its text only where that fits, and two of them, one behind the other
+abbrev pub Puts : List ℕ → ℕ → List ℕ → ℕ → List ℕ → Type 0
+Puts o at s n y = at + length o ≤ length s → wrote n y ≡ putAt o at s
+
+pub puts-two : (o₁ o₂ s : List ℕ) (at : ℕ) {k m : ℕ} {y z : List ℕ} → Puts o₁ at s k y → Puts o₂ k y m z → Puts (o₁ ++ o₂) at s m z
+puts-two o₁ o₂ s at {k} {m} {y} {z} first second fits =
+    let l = length-append o₁ o₂ in
+    let fits₁ : at + length o₁ ≤ length s = omega arith in
+    let f = first fits₁ in
+    let fits₂ : k + length o₂ ≤ length y = omega (arith, put-answer o₁ s at fits₁ k y f, put-length o₁ s at fits₁ k y f) in
+    put-two o₁ o₂ s at fits k m y z f (second fits₂)
 
 -- ---- lengths
 
@@ -152,6 +160,36 @@ refused-line-length r n p =
     let f₂ : List ℕ = field atWord (r .place) in
     omega (arith, length-append f₁ (f₂ ++ newline), length-append f₂ newline, octet-field refusedWord (r .number) n, field-length 20 (r .place) p (omega arith) atWord)
 
+-- ---- lines, field by field
+
+pub line-puts : (kind : Kind) (e : Element) (s : List ℕ) (at : ℕ) {y₁ y₂ y₃ y₄ y₅ y₆ : List ℕ} {n₁ n₂ n₃ n₄ n₅ n₆ : ℕ}
+    → Puts (field elementWord (requestId kind)) at s n₁ y₁
+    → Puts (field tokenWord (e .token)) n₁ y₁ n₂ y₂
+    → Puts (field typeWord (e .ty)) n₂ y₂ n₃ y₃
+    → Puts (limitField kind e) n₃ y₃ n₄ y₄
+    → Puts (field subsWord (e .subs)) n₄ y₄ n₅ y₅
+    → Puts newline n₅ y₅ n₆ y₆
+    → Puts (elementLine kind e) at s n₆ y₆
+unfolding elementLine
+line-puts kind e s at f₁ f₂ f₃ f₄ f₅ f₆ = puts-two _ _ s at f₁ (puts-two _ _ _ _ f₂ (puts-two _ _ _ _ f₃ (puts-two _ _ _ _ f₄ (puts-two _ _ _ _ f₅ f₆))))
+
+pub frame-line-puts : (kind : Kind) (dialog count : ℕ) (s : List ℕ) (at : ℕ) {y₁ y₂ y₃ y₄ : List ℕ} {n₁ n₂ n₃ n₄ : ℕ}
+    → Puts (field frameWord (requestAction kind)) at s n₁ y₁
+    → Puts (field dialogWord dialog) n₁ y₁ n₂ y₂
+    → Puts (field elementsWord count) n₂ y₂ n₃ y₃
+    → Puts newline n₃ y₃ n₄ y₄
+    → Puts (frameLine kind dialog count) at s n₄ y₄
+unfolding frameLine
+frame-line-puts kind dialog count s at f₁ f₂ f₃ f₄ = puts-two _ _ s at f₁ (puts-two _ _ _ _ f₂ (puts-two _ _ _ _ f₃ f₄))
+
+pub refused-line-puts : (r : Refusal) (s : List ℕ) (at : ℕ) {y₁ y₂ y₃ : List ℕ} {n₁ n₂ n₃ : ℕ}
+    → Puts (field refusedWord (r .number)) at s n₁ y₁
+    → Puts (field atWord (r .place)) n₁ y₁ n₂ y₂
+    → Puts newline n₂ y₂ n₃ y₃
+    → Puts (refusedLine r) at s n₃ y₃
+unfolding refusedLine
+refused-line-puts r s at f₁ f₂ f₃ = puts-two _ _ s at f₁ (puts-two _ _ _ _ f₂ f₃)
+
 -- ---- the lines of the elements: i of them stand behind the first octets, which end at from
 
 pub record Lining (kind : Kind) (es : List Element) (count from : ℕ) (s buf : List ℕ) (at i : ℕ) : Type 0 where
@@ -226,3 +264,12 @@ module _ (r : Request) (s : List ℕ) where
       let o₂ : List ℕ = elementLines (r .kind) (take (r .count) (r .elements)) in
       let fits : length (o₁ ++ o₂) ≤ length s = omega (arith, length-append o₁ o₂) in
       put-two o₁ o₂ s 0 (omega arith) k m y z first second ∙ put-front (o₁ ++ o₂) s fits ∙ rw (le-ltb (length s) 512 h, eq-eqb (r .refusal .number) 0 n)
+
+  -- the answer lies within the buffer
+  pub listed-within : (n : ℕ) (y : List ℕ) → wrote n y ≡ listed r s → Within n y
+  unfolding listed
+  listed-within n y e =
+      let P : Written → Type 0 = λ (w : Written). w .answer ≤ length (w .octets) in
+      let p : P (listed r s) = either P _ _ _ (λ _. omega arith) (λ _. omega (arith, length-append (listing r) (drop (length (listing r)) s))) in
+      let q : n ≤ length y = subst P (sym e) p in
+      (q, sym (length-take-le n y q))

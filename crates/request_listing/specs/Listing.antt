@@ -1,6 +1,7 @@
 -- Document 01, "The frame program": the text that lists a request, in ASCII; every line ends in a line feed.
 -- Assumes nothing.
-use Prim.Native.Nat.{ℕ}
+use Prim.Native.Nat.{ℕ, _≤_}
+use mathlib.Core.Path.{_≡_}
 use mathlib.Core.Bool.{Bool, true, false, not}
 use mathlib.Core.List.{List, [], _∷_, _++_}
 use lib.ListN.{length, take}
@@ -110,3 +111,7 @@ listed r s = if ltb (length s) listingBuffer then wrote 0 s else wrote (length (
 -- what the frame program prints of a frame
 abbrev pub listFrame : List ℕ → List ℕ → Written
 listFrame frame s = listed (readRequest frame) s
+
+-- the answer lies within the buffer. The second part follows from the first; with both, a program that lends the text on needs no proof file
+abbrev pub Within : ℕ → List ℕ → Type 0
+Within n s = (n ≤ length s) × (n ≡ length (take n s))

@@ -11,7 +11,7 @@ ghost use mathlib.Core.Path.{_≡_};
 ghost use Prim.Native.Nat.{_+_, _≤_};
 ghost use lib.ListN.{length, take};
 ghost use Rattle.laws.specs.Buffers.{wrote, putAt};
-ghost use Rattle.request_listing.specs.Listing.{field, frameLine, limitField, elementLine, refusedLine, elementLines, listed, listFrame};
+ghost use Rattle.request_listing.specs.Listing.{field, frameLine, limitField, elementLine, refusedLine, elementLines, listed, listFrame, Within};
 
 // The octets that a buffer has at least; the longest listing has fewer.
 pub const LISTING_BUFFER: usize = 512;
@@ -88,6 +88,7 @@ fn put_refusal(buf: &mut [u8], r: Refusal) -> usize
 // Lists a request at the front of a buffer; the text's length.
 pub fn list_request(r: Request, buf: &mut [u8]) -> usize
     ensures { λ n. ⌜ wrote n (now (buf .exit)) ≡ listed r (now (buf .entry)) ⌝ }
+    ensures { λ n. ⌜ Within n (now (buf .exit)) ⌝ }
 {
     if buf.len() < LISTING_BUFFER {
         return 0;
@@ -105,6 +106,7 @@ pub fn list_request(r: Request, buf: &mut [u8]) -> usize
 // Reads a frame and lists it.
 pub fn list_frame(frame: &[u8], buf: &mut [u8]) -> usize
     ensures { λ n. ⌜ wrote n (now (buf .exit)) ≡ listFrame (now (frame .entry)) (now (buf .entry)) ⌝ }
+    ensures { λ n. ⌜ Within n (now (buf .exit)) ⌝ }
 {
     list_request(read_request(frame), buf)
 }

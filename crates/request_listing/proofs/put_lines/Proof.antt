@@ -1,58 +1,55 @@
+-- `request_listing::put_lines` meets its contract. The invariant, `Lining`: the lines of the elements before this one stand there.
+-- Assumes nothing.
+use Prim.Native.Nat.{ℕ, _-_}
+use native.Mathlib.Omega.{arith}
+use lib.ListN.{length, length-take}
+use borrow.Author.Needs.{needs}
+use Rattle.laws.proofs.Arrays.{length-mapped}
+use Rattle.request_listing.proofs.Laws.{Lining, lining-start, lining-at, lining-length, lining-next, lining-end}
 use Rattle.request_listing.proofs.put_lines.Statement.{statement}
 use Rattle.request_listing.proofs.put_lines.Tie as tie
-use Rattle.request_listing.proofs.put_lines.Reads as reads
-use Rattle.request_listing.proofs.put_lines.Lts as lts
-use Rattle.request_listing.proofs.put_line.Reads as put-line-reads
 
 abbrev Inv-loop : tie.InvT-loop
-Inv-loop buf₀ from kind count es at₀ i₀ buf at i = ?
+Inv-loop buf₀ from kind count es at₀ i₀ buf at i = Lining kind es count from buf₀ buf at i
 
 abbrev μ-loop : tie.MeasureT-loop
-μ-loop buf₀ from kind count es at₀ i₀ buf at i = ?
+μ-loop buf₀ from kind count es at₀ i₀ buf at i = count - i
 
--- src/lib.rt:56:5
 loop-holds : tie.Need-loop-holds Inv-loop μ-loop
-loop-holds c = ?
+loop-holds c = lining-start _ _ _ _ _ (search (needs, length-mapped)) (c .before .pre .0) (c .before .pre .1)
 
--- src/lib.rt:58:13
 same-length : tie.Need-same-length Inv-loop μ-loop
-same-length c = ?
+same-length c = lining-length (c .before .before .loop .inv)
 
--- src/lib.rt:58:13
 returns : tie.Need-returns Inv-loop μ-loop
-returns c = ?
+returns c =
+    let l = c .before .before .loop .inv in lining-end l (omega (arith, l .eight, c .if1 .taken, length-take (c .before .before .before .before .args .count) (c .before .before .before .before .args .t4)))
 
--- src/lib.rt:60:17
 mul-e : tie.Need-mul-e Inv-loop μ-loop
-mul-e c = ?
+mul-e c = omega arith
 
--- src/lib.rt:60:17
 array-copy-out-e : tie.Need-array-copy-out-e Inv-loop μ-loop
-array-copy-out-e c = ?
+array-copy-out-e c = omega (arith, c .before .before .loop .inv .eight)
 
--- src/lib.rt:61:9
 put-line-requires : tie.Need-put-line-requires Inv-loop μ-loop
-put-line-requires c κs = ?
+put-line-requires c κs = let l = c .before .before .before .before .loop .inv in omega (arith, lining-at l, lining-length l, l .room, c .before .before .if1 .left)
 
--- src/lib.rt:62:9
 add-i : tie.Need-add-i Inv-loop μ-loop
-add-i c = ?
+add-i c = omega arith
 
--- src/lib.rt:56:5
 loop-less : tie.Need-loop-less Inv-loop μ-loop
-loop-less c = ?
+loop-less c = omega arith
 
--- src/lib.rt:56:5
 loop-again : tie.Need-loop-again Inv-loop μ-loop
-loop-again c = ?
+loop-again c =
+    let l = c .before .before .before .before .before .before .before .loop .inv in lining-next l (c .before .before .before .before .before .before .loop-test .taken) (c .before .before .before .before .before .if1 .left) _ _ (c .before .before .put-line .ensures .0) (c .before .before .put-line .ensures .1)
 
--- src/lib.rt:50:1
 same-length-2 : tie.Need-same-length-2 Inv-loop μ-loop
-same-length-2 c = ?
+same-length-2 c = lining-length (c .before .loop .inv)
 
--- src/lib.rt:50:1
 returns-2 : tie.Need-returns-2 Inv-loop μ-loop
-returns-2 c = ?
+returns-2 c =
+    let l = c .before .loop .inv in lining-end l (omega (arith, c .loop-test .left, length-take (c .before .before .before .args .count) (c .before .before .before .args .t4)))
 
 pub put-lines-spec : {M : Type 1} → statement M
 put-lines-spec =
