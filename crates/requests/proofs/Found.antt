@@ -239,3 +239,23 @@ module _ (s : List ℕ) (octets : (i : ℕ) → getD s i 0 < 256) where
   -- from octets: every field of every element is in range
   pub ranged : All Ranged (readRequest s .elements)
   ranged = of-read (λ (n : ℕ) (es : List Element). All Ranged es) s blank-ranged step-ranged
+
+  abbrev Dialog : Request → Type 0
+  Dialog r = r .dialog < 256
+
+  kind-dialog : (kind : Kind) → Dialog (readKind s kind)
+  unfolding readKind requestOf
+  kind-dialog kind =
+      either Dialog _ _ _ (λ _. omega arith)
+      (λ _. either Dialog _ _ _ (λ _. omega arith)
+      (λ _. either Dialog _ _ _ (λ _. omega arith) (λ _. octets 2)))
+
+  -- and so is the dialog token
+  pub dialog-ranged : readRequest s .dialog < 256
+  unfolding readRequest
+  dialog-ranged =
+      either Dialog _ _ _ (λ _. omega arith)
+      (λ _. either Dialog _ _ _ (λ _. omega arith)
+      (λ _. either Dialog _ _ _ (λ _. omega arith)
+      (λ _. either Dialog _ _ _ (λ _. kind-dialog Event)
+      (λ _. either Dialog _ _ _ (λ _. kind-dialog Diagnostic) (λ _. omega arith)))))
