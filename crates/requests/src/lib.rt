@@ -46,12 +46,12 @@ pub struct Request {
 }
 
 // How far a walk over the elements of a frame has come: refused, or the next position, and the
-// request elements so far.
-struct Elements {
-    refusal: Refusal,
-    at: usize,
-    count: usize,
-    elements: [Element; 8],
+// request elements so far. Public for the round trip's proof alone.
+pub struct Elements {
+    pub refusal: Refusal,
+    pub at: usize,
+    pub count: usize,
+    pub elements: [Element; 8],
 }
 
 // The octets of a body before its subelements.
