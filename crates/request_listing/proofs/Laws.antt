@@ -1,15 +1,13 @@
 -- Laws of the listing: texts behind the first octets of a buffer, put one after the other, and how long each line is at most.
 -- Assumes nothing.
-use Prim.Native.Nat.{ℕ, suc, _+_, _-_, _*_, _^_, _≤_, _<_}
+use Prim.Native.Nat.{ℕ, _+_, _*_, _^_, _≤_, _<_}
 use mathlib.Core.Path.{_≡_, refl, sym, ap, subst, _∙_}
-use mathlib.Core.Bool.{Bool, true, false, not}
 use mathlib.Core.List.{List, [], _∷_, _++_, append-assoc, append-nil}
-use lib.ListN.{length, getD, take, drop, length-append, length-take, take-append-drop}
+use lib.ListN.{length, getD, take, drop, length-append, take-append-drop}
 use lib.Seq.{drop-drop, length-take-le, take-suc, take-all, take-take}
-use lib.Dec.{ltb, eqb}
 use borrow.Author.Tests.{eq-eqb, ne-eqb, lt-ltb, le-ltb}
 use native.Mathlib.Numerals.{add-one}
-use native.Mathlib.Nat.{add-zero, zero-add}
+use native.Mathlib.Nat.{zero-add}
 use native.Mathlib.Omega.{arith}
 use Rattle.laws.specs.Choice.{if_then_else_}
 use Rattle.laws.specs.Buffers.{onto, pieces, Written, wrote, putAt}

@@ -16,12 +16,12 @@ use Rattle.laws.proofs.Walk.{Rest, again, done, go-on, stop-end}
 use Rattle.laws.proofs.Parts.{stands-at, stands-first, stands-behind}
 use Rattle.laws.proofs.Arrays.{fill-next, leave-next, next-blank}
 use Rattle.octets.specs.Refusals.{noRefusal}
-use Rattle.octets.specs.Elements.{framed, pieceEnd}
+use Rattle.octets.specs.Elements.{framed}
 use Rattle.octets.proofs.ElementLaws.{piece-stands}
 use Rattle.subelements.specs.declared.Condition.{Condition}
 use Rattle.subelements.specs.declared.Subelements.{Subelements}
 use Rattle.subelements.specs.Subelements.{lengthOf, bodyOctet, bodyAt, absent, noFilter, pastFilter, past, wholeStep, step, more}
-use Rattle.requests.proofs.Found.{All, none, also}
+use Rattle.requests.proofs.Found.{All, also}
 use Rattle.request_writer.specs.Frames.{conditionOctets}
 use Rattle.request_writer.specs.ReadBack.{readCondition, readFilter, present}
 use Rattle.request_writer.proofs.Shapes.{Six}

@@ -1,15 +1,15 @@
 -- The elements that were written are read back: the reader's walk and the writer's test of tokens go along the elements together.
 -- Assumes nothing.
 use Prim.Native.Nat.{ℕ, suc, _+_, _-_, _≤_, _<_}
-use mathlib.Core.Path.{_≡_, refl, sym, ap, _∙_}
-use mathlib.Core.Bool.{Bool, true, false, not}
+use mathlib.Core.Path.{_≡_, refl, sym, _∙_}
+use mathlib.Core.Bool.{Bool, true, false}
 use mathlib.Core.List.{List, [], _∷_, _++_, append-assoc, append-nil, map, map-append}
 use lib.ListN.{length, getD, take, drop, set, length-append, length-map}
 use lib.Seq.{take-at}
 use lib.Dec.{eqb}
 use borrow.Author.Tests.{le-ltb, lt-leb, eq-eqb, ne-eqb}
 use native.Mathlib.Numerals.{add-one}
-use native.Mathlib.Nat.{add-zero, add-assoc, add-suc, zero-add}
+use native.Mathlib.Nat.{add-zero, zero-add}
 use native.Mathlib.Omega.{arith}
 use Rattle.laws.specs.Choice.{if_then_else_}
 use Rattle.laws.specs.Buffers.{pieces}
@@ -22,7 +22,6 @@ use Rattle.octets.specs.declared.numbers.Kind.the-variants.{Event, Diagnostic}
 use Rattle.octets.specs.declared.refusals.Refusal.{Refusal}
 use Rattle.octets.specs.Refusals.{noRefusal}
 use Rattle.octets.specs.Numbers.{requestId}
-use Rattle.octets.specs.Fields.{low, high, pairAt}
 use Rattle.octets.specs.Elements.{framed}
 use Rattle.octets.proofs.ElementLaws.{piece-stands}
 use Rattle.octets.proofs.FieldLaws.{pair-halves}
@@ -30,7 +29,7 @@ use Rattle.subelements.specs.Subelements.{noFilter, walked, walk}
 use Rattle.requests.specs.declared.Element.{Element}
 use Rattle.requests.specs.declared.Elements.{Elements}
 use Rattle.requests.specs.Elements.{leastBody, limitAt, timeoutAt, subelementsOf, blankElements, pastElements, hasToken, badToken, withElement, ownStep, elementStep, more}
-use Rattle.requests.proofs.Found.{All, none, also}
+use Rattle.requests.proofs.Found.{All, also}
 use Rattle.request_writer.specs.Frames.{filterOctets, elementBody, elementOctets}
 use Rattle.request_writer.specs.Writer.{tokenRefusal}
 use Rattle.request_writer.specs.ReadBack.{present, readFilter, readElement}

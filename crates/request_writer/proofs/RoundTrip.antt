@@ -1,17 +1,16 @@
 -- What the writer writes, the reader reads to the same fields, for every input that the writer accepts.
 -- Assumes nothing.
-use Prim.Native.Nat.{ℕ, _+_, _*_, _≤_, _<_}
-use mathlib.Core.Path.{_≡_, refl, sym, ap, _∙_}
+use Prim.Native.Nat.{ℕ, _≤_}
+use mathlib.Core.Path.{_≡_, refl, ap, _∙_}
 use mathlib.Core.Bool.{Bool, true, false, not}
-use mathlib.Core.List.{List, [], _∷_, _++_}
+use mathlib.Core.List.{List, []}
 use lib.ListN.{length, take, drop, length-take}
 use lib.Seq.{take-append-seam}
 use lib.Dec.{ltb, eqb}
-use borrow.Author.Tests.{le-ltb, eq-eqb, ne-eqb, eqb-true, eqb-false, ltb-false, not-true, not-false}
+use borrow.Author.Tests.{le-ltb, eq-eqb, eqb-true, eqb-false, ltb-false, not-true, not-false}
 use native.Mathlib.Nat.{zero-add}
 use native.Mathlib.Omega.{arith}
 use Rattle.laws.specs.Choice.{if_then_else_}
-use Rattle.laws.specs.Buffers.{onto}
 use Rattle.laws.proofs.Choice.{either}
 use Rattle.laws.proofs.Walk.{start}
 use Rattle.octets.specs.declared.numbers.Kind.{Kind}
@@ -25,7 +24,7 @@ use Rattle.requests.specs.Elements.{walkElements}
 use Rattle.requests.specs.Requests.{refusedRequest, lacksElement, requestOf, readKind, readRequest}
 use Rattle.requests.proofs.Found.{All}
 use Rattle.request_writer.specs.declared.Written.{Written}
-use Rattle.request_writer.specs.Frames.{elementsOctets, frameOctets}
+use Rattle.request_writer.specs.Frames.{frameOctets}
 use Rattle.request_writer.specs.Writer.{placeBehind, refusedWritten, writtenLength, tokenRefusal, elementsAnswer, frameAnswer, writeAnswer, writeOctets, Outcome, outcome, writeRequest}
 use Rattle.request_writer.specs.ReadBack.{readBack, echoed}
 use Rattle.request_writer.proofs.Shapes.{Shaped, all-take}

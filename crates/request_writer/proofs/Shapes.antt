@@ -8,6 +8,11 @@ use mir.Val.{Val}
 use base.Fml.{Fml}
 use denote.Array.{each}
 use denote.Shadow.{shadow}
+use borrow.Kind.Array.{eStruct}
+use borrow.Author.Needs.{needs}
+use Rattle.laws.proofs.Arrays.{length-mapped}
+use Rattle.requests.proofs.Element.{the-type}
+use Rattle.requests.proofs.Element.Laws.{the-laws, the-copy}
 use Rattle.requests.proofs.Found.{All, none, also}
 use Rattle.subelements.specs.declared.Condition.{Condition}
 use Rattle.requests.specs.declared.Element.{Element}
@@ -40,3 +45,10 @@ pub each-mapped : {D E : Type 0} {P : D → Type 0} (f : E → List Val → Fml)
 each-mapped f into tells [] us p = none
 each-mapped f into tells (x ∷ xs) [] p = absurd p
 each-mapped f into tells (x ∷ xs) (u ∷ us) p = also (tells x u (p .0)) (each-mapped f into tells xs us (p .1))
+
+-- ---- an array of elements has the lengths of its parts
+
+pub shaped : (es : List Element) (us : List Val) → shadow (each Element (eStruct the-type the-laws the-copy .ty .own) es us) → All Shaped es
+shaped =
+    each-all _
+    (λ x u p. record { five = search (needs, length-mapped); six = each-mapped _ _ (λ y v q. search needs) (x .filter) _ (p .1 .1 .1 .1 .1 .1 .1 .0 .1 .1) })

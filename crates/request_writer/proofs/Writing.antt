@@ -2,21 +2,20 @@
 -- Assumes nothing.
 use Prim.Native.Nat.{ℕ, suc, _+_, _-_, _*_, _≤_, _<_}
 use mathlib.Core.Path.{_≡_, refl, sym, ap, _∙_}
-use mathlib.Core.Bool.{Bool, true, false}
+use mathlib.Core.Bool.{true, false}
 use mathlib.Core.List.{List, [], _∷_, _++_, append-assoc, append-nil}
 use lib.ListN.{length, getD, take, drop, length-append, length-take, length-drop, drop-of-length-le}
 use lib.Seq.{drop-cons, take-suc, take-all, take-at, drop-at, drop-drop, length-take-le, take-append-add}
-use lib.Dec.{ltb, eqb}
 use borrow.Author.Tests.{eq-eqb, ne-eqb, lt-ltb, le-ltb}
 use borrow.Rule.Slice.PartMut.{putMid}
 use native.Mathlib.Numerals.{add-one}
 use native.Mathlib.Omega.{arith}
 use Rattle.laws.specs.Choice.{if_then_else_}
 use Rattle.laws.specs.Buffers.{onto, pieces, wrote, putAt}
-use Rattle.laws.proofs.Buffers.{length-onto, lent, lent-length, Putting, putting-start, putting-at, putting-done}
+use Rattle.laws.proofs.Buffers.{length-onto, lent, lent-length, putting-start, putting-at, putting-done}
 use Rattle.octets.specs.declared.numbers.Kind.{Kind}
 use Rattle.octets.specs.declared.numbers.Kind.the-variants.{Event, Diagnostic}
-use Rattle.octets.specs.Refusals.{elementToken, ninthElement, noElement, shortBuffer, dialogToken}
+use Rattle.octets.specs.Refusals.{elementToken, ninthElement, shortBuffer, dialogToken}
 use Rattle.octets.specs.Numbers.{requestAction}
 use Rattle.octets.specs.Fields.{low, high}
 use Rattle.octets.specs.Elements.{framed}
@@ -27,7 +26,7 @@ use Rattle.requests.specs.Elements.{pastElements, badToken}
 use Rattle.requests.proofs.Laws.{take-next, pieces-snoc}
 use Rattle.request_writer.specs.declared.Written.{Written}
 use Rattle.request_writer.specs.Frames.{conditionOctets, filterOctets, elementBody, elementOctets, elementsOctets, frameOctets}
-use Rattle.request_writer.specs.Writer.{placeBehind, tokenRefusal, refusedWritten, writtenLength, elementsAnswer, frameAnswer, writeAnswer, writeOctets, outcome, writeRequest}
+use Rattle.request_writer.specs.Writer.{tokenRefusal, refusedWritten, writtenLength, elementsAnswer, frameAnswer, writeAnswer, writeOctets, outcome, writeRequest}
 use Rattle.request_writer.proofs.ConditionsBack.{length-of}
 use Rattle.request_writer.proofs.RoundTrip.{elements-accepted, frame-accepted}
 

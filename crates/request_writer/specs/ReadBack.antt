@@ -1,7 +1,7 @@
 -- What the reader finds in a frame that the writer wrote: the same fields. What the kind or the type does not have is 0, or absent.
 -- Assumes nothing.
 use Prim.Native.Nat.{ℕ, suc, _+_}
-use mathlib.Core.Bool.{Bool, true, false}
+use mathlib.Core.Bool.{true}
 use mathlib.Core.List.{List, [], _∷_, _++_, map}
 use lib.ListN.{take, drop}
 use lib.Dec.{eqb}

@@ -15,8 +15,7 @@ use requests::lacks_element;
 use requests::read_request;
 use subelements::Condition;
 ghost use mathlib.Core.Path.{_≡_};
-ghost use mathlib.Core.List.{_∷_, []};
-ghost use Prim.Native.Nat.{_+_, _≤_, _<_};
+ghost use Prim.Native.Nat.{_≤_, _<_};
 ghost use lib.ListN.{length, take};
 ghost use Rattle.laws.specs.Buffers.{onto};
 ghost use Rattle.subelements.specs.Subelements.{lengthOf};
@@ -30,7 +29,7 @@ pub struct Written {
     pub length: usize,
 }
 
-// The body lengths of the transition subelements 0 to 4.
+// The body lengths of the transition subelements 0 to 4, as subelements has them.
 const LENGTHS: [usize; 5] = [6, 6, 2, 1, 3];
 
 fn length_of(id: usize) -> usize

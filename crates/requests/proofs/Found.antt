@@ -4,27 +4,24 @@ use Prim.Native.Nat.{ℕ, zero, suc, _+_, _≤_, _<_}
 use mathlib.Core.Path.{_≡_, refl, sym, ap, _∙_}
 use mathlib.Core.Bool.{Bool, true, false}
 use mathlib.Core.List.{List, [], _∷_}
-use mathlib.Core.Logic.{⊎-elim}
 use lib.ListN.{length, getD, set, take, length-set, length-take}
 use lib.Seq.{getD-set-same, getD-set-other, getD-take}
-use lib.Dec.{eqb, ltb}
-use borrow.Author.Tests.{eq-eqb, eqb-false, eqb-true, ltb-true, ltb-false, leb-false}
+use lib.Dec.{eqb}
+use borrow.Author.Tests.{eqb-false, eqb-true, leb-false}
 use native.Mathlib.Omega.{arith}
-use Rattle.laws.specs.Choice.{if_then_else_}
 use Rattle.laws.proofs.Choice.{either}
 use Rattle.laws.proofs.Walk.{keeps}
 use Rattle.octets.specs.declared.numbers.Kind.{Kind}
 use Rattle.octets.specs.declared.numbers.Kind.the-variants.{Event, Diagnostic}
 use Rattle.octets.specs.Refusals.{noRefusal}
-use Rattle.octets.specs.Elements.{pieceEnd}
-use Rattle.octets.proofs.ElementLaws.{Ends, piece-ends}
+use Rattle.octets.proofs.ElementLaws.{piece-ends}
 use Rattle.subelements.specs.declared.Condition.{Condition}
 use Rattle.subelements.specs.declared.Subelements.{Subelements}
 use Rattle.subelements.specs.Subelements.{bodyOctet, bodyAt, absent, noFilter, walked, wholeStep, step, walk}
 use Rattle.requests.specs.declared.Element.{Element}
 use Rattle.requests.specs.declared.Elements.{Elements}
 use Rattle.requests.specs.declared.Request.{Request}
-use Rattle.requests.specs.Elements.{blankElement, blankElements, pastElements, limitAt, timeoutAt, subelementsOf, elementOf, hasToken, badToken, zeroToken, started, withElement, ownStep, elementStep, walkElements}
+use Rattle.requests.specs.Elements.{blankElement, blankElements, pastElements, limitAt, timeoutAt, subelementsOf, hasToken, badToken, zeroToken, started, withElement, ownStep, elementStep, walkElements}
 use Rattle.requests.specs.Requests.{requestOf, readKind, readRequest}
 use Rattle.requests.proofs.Laws.{subelements-few}
 
@@ -242,3 +239,23 @@ module _ (s : List ℕ) (octets : (i : ℕ) → getD s i 0 < 256) where
   -- from octets: every field of every element is in range
   pub ranged : All Ranged (readRequest s .elements)
   ranged = of-read (λ (n : ℕ) (es : List Element). All Ranged es) s blank-ranged step-ranged
+
+  abbrev Dialog : Request → Type 0
+  Dialog r = r .dialog < 256
+
+  kind-dialog : (kind : Kind) → Dialog (readKind s kind)
+  unfolding readKind requestOf
+  kind-dialog kind =
+      either Dialog _ _ _ (λ _. omega arith)
+      (λ _. either Dialog _ _ _ (λ _. omega arith)
+      (λ _. either Dialog _ _ _ (λ _. omega arith) (λ _. octets 2)))
+
+  -- and so is the dialog token
+  pub dialog-ranged : readRequest s .dialog < 256
+  unfolding readRequest
+  dialog-ranged =
+      either Dialog _ _ _ (λ _. omega arith)
+      (λ _. either Dialog _ _ _ (λ _. omega arith)
+      (λ _. either Dialog _ _ _ (λ _. omega arith)
+      (λ _. either Dialog _ _ _ (λ _. kind-dialog Event)
+      (λ _. either Dialog _ _ _ (λ _. kind-dialog Diagnostic) (λ _. omega arith)))))

@@ -1,7 +1,7 @@
 -- Document 01, "Why a call is turned away": a request frame whole, "1, 2, 3, then elements from the front, .. and 10 at the end".
 -- Assumes nothing.
 use Prim.Native.Nat.{ℕ}
-use mathlib.Core.Bool.{Bool, true, false, not}
+use mathlib.Core.Bool.{Bool, false, not}
 use mathlib.Core.List.{List}
 use lib.ListN.{length, getD}
 use lib.Dec.{ltb, eqb}

@@ -46,7 +46,7 @@ pub struct Request {
 }
 
 // How far a walk over the elements of a frame has come: refused, or the next position, and the
-// request elements so far.
+// request elements so far. Public for the round trip's proof alone.
 pub struct Elements {
     pub refusal: Refusal,
     pub at: usize,

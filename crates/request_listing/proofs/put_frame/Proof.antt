@@ -1,8 +1,6 @@
 -- `request_listing::put_frame` meets its contract.
 -- Assumes nothing.
-use mathlib.Core.Path.{_≡_}
 use native.Mathlib.Omega.{arith}
-use lib.ListN.{length}
 use Rattle.request_listing.proofs.Laws.{frame-line-length, frame-line-puts}
 use borrow.Author.Needs.{needs}
 use Rattle.request_listing.proofs.put_frame.Statement.{statement}

@@ -1,6 +1,6 @@
 -- `request_listing::put_line` meets its contract.
 -- Assumes nothing.
-use Prim.Native.Nat.{ℕ, _+_, _≤_}
+use Prim.Native.Nat.{_+_, _≤_}
 use native.Mathlib.Omega.{arith}
 use lib.ListN.{length}
 use Rattle.request_listing.specs.Listing.{elementLine}

@@ -1,8 +1,8 @@
 -- `request_listing::put_lines` meets its contract. The invariant, `Lining`: the lines of the elements before this one stand there.
 -- Assumes nothing.
-use Prim.Native.Nat.{ℕ, _-_}
+use Prim.Native.Nat.{_-_}
 use native.Mathlib.Omega.{arith}
-use lib.ListN.{length, length-take}
+use lib.ListN.{length-take}
 use borrow.Author.Needs.{needs}
 use Rattle.laws.proofs.Arrays.{length-mapped}
 use Rattle.request_listing.proofs.Laws.{Lining, lining-start, lining-at, lining-length, lining-next, lining-end}

@@ -1,6 +1,5 @@
 -- `request_listing::put_refusal` meets its contract.
 -- Assumes nothing.
-use mathlib.Core.Path.{_≡_}
 use native.Mathlib.Omega.{arith}
 use Rattle.request_listing.proofs.Laws.{refused-line-length, refused-line-puts}
 use borrow.Author.Needs.{needs}

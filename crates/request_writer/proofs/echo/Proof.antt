@@ -1,14 +1,13 @@
 -- `request_writer::echo` meets its contract: the round trip, for what the code holds.
 -- Assumes nothing.
-use Prim.Native.Nat.{ℕ, _≤_}
-use mathlib.Core.Path.{_≡_, refl, sym, ap, _∙_}
+use mathlib.Core.Path.{_≡_, refl, sym, ap}
 use native.Mathlib.Omega.{arith}
 use lib.ListN.{length, replicate}
 use lib.Seq.{length-take-le}
 use Rattle.laws.proofs.Arrays.{length-mapped}
 use Rattle.requests.proofs.Found.{All}
 use Rattle.request_writer.specs.Writer.{Outcome}
-use Rattle.request_writer.proofs.Shapes.{Shaped, each-all, each-mapped}
+use Rattle.request_writer.proofs.Shapes.{shaped}
 use Rattle.request_writer.proofs.RoundTrip.{answer-bounded, echo-read}
 use borrow.Author.Needs.{needs}
 use Rattle.request_writer.proofs.echo.Statement.{statement}
@@ -23,7 +22,7 @@ write-request-requires c κs = search needs
 array-share-prefix-buf : tie.Need-array-share-prefix-buf
 array-share-prefix-buf c =
     let a = c .before .before .before .args in
-    let shapes : All Shaped (a .elements) = each-all _ (λ x u p. record { five = search (needs, length-mapped); six = each-mapped _ _ (λ y v q. search needs) (x .filter) _ (p .1 .1 .1 .1 .1 .1 .1 .0 .1 .1) }) (a .elements) _ (c .before .before .before .good .1 .1 .0 .1 .1) in
+    let shapes = shaped (a .elements) _ (c .before .before .before .good .1 .1 .0 .1 .1) in
     let eight : length (a .elements) ≡ 8 = search (needs, length-mapped) in
     let long : length (c .before .write-request .last .1 .1 .1 .1 .0) ≡ 267 = search needs in
     omega (arith, long, answer-bounded (a .kind) (a .dialog) (a .elements) (a .count) shapes eight 267 .most, ap (λ (o : Outcome). o .answer .length) (c .before .write-request .ensures))
@@ -31,7 +30,7 @@ array-share-prefix-buf c =
 slice-aggregate-read-request : tie.Need-slice-aggregate-read-request
 slice-aggregate-read-request c =
     let a = c .before .before .before .before .args in
-    let shapes : All Shaped (a .elements) = each-all _ (λ x u p. record { five = search (needs, length-mapped); six = each-mapped _ _ (λ y v q. search needs) (x .filter) _ (p .1 .1 .1 .1 .1 .1 .1 .0 .1 .1) }) (a .elements) _ (c .before .before .before .before .good .1 .1 .0 .1 .1) in
+    let shapes = shaped (a .elements) _ (c .before .before .before .before .good .1 .1 .0 .1 .1) in
     let eight : length (a .elements) ≡ 8 = search (needs, length-mapped) in
     let long : length (c .before .before .write-request .last .1 .1 .1 .1 .0) ≡ 267 = search needs in
     sym (length-take-le _ _ (omega (arith, long, answer-bounded (a .kind) (a .dialog) (a .elements) (a .count) shapes eight 267 .most, ap (λ (o : Outcome). o .answer .length) (c .before .before .write-request .ensures))))
@@ -42,7 +41,7 @@ read-request-requires c κs = search needs
 returns : tie.Need-returns
 returns c =
     let a = c .before .before .before .before .before .args in
-    let shapes : All Shaped (a .elements) = each-all _ (λ x u p. record { five = search (needs, length-mapped); six = each-mapped _ _ (λ y v q. search needs) (x .filter) _ (p .1 .1 .1 .1 .1 .1 .1 .0 .1 .1) }) (a .elements) _ (c .before .before .before .before .before .good .1 .1 .0 .1 .1) in
+    let shapes = shaped (a .elements) _ (c .before .before .before .before .before .good .1 .1 .0 .1 .1) in
     let eight : length (a .elements) ≡ 8 = search (needs, length-mapped) in
     echo-read (a .kind) (a .dialog) (a .elements) (a .count) shapes eight (replicate 267 0) (c .before .before .before .write-request .last .1 .1 .1 .1 .0) (c .before .before .before .write-request .result) (c .read-request .result) refl (c .before .before .before .write-request .ensures) (c .read-request .ensures)
 

@@ -1,7 +1,7 @@
 -- `request_writer::put_elements` meets its contract. The invariant, `Laying`: the elements before this one stand at the front, and their tokens are good.
 -- Assumes nothing.
-use Prim.Native.Nat.{ℕ, _+_, _-_}
-use mathlib.Core.Path.{_≡_, sym, ap, _∙_}
+use Prim.Native.Nat.{_-_}
+use mathlib.Core.Path.{sym, ap, _∙_}
 use native.Mathlib.Omega.{arith}
 use lib.ListN.{length}
 use borrow.Author.Needs.{needs}

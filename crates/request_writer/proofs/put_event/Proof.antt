@@ -1,10 +1,10 @@
 -- `request_writer::put_event` meets its contract: with conditions, they are put first, and the head in front of them.
 -- Assumes nothing.
-use mathlib.Core.Path.{_≡_, refl, sym, ap, _∙_}
+use mathlib.Core.Path.{_≡_, refl, ap, _∙_}
 use mathlib.Core.List.{List, [], _∷_, _++_}
-use Prim.Native.Nat.{ℕ, _+_, _-_, _≤_}
+use Prim.Native.Nat.{ℕ, _+_, _-_}
 use native.Mathlib.Omega.{arith}
-use lib.ListN.{length, take, drop}
+use lib.ListN.{length}
 use borrow.Rule.Slice.PartMut.{putMid}
 use Rattle.octets.specs.declared.numbers.Kind.the-variants.{Event}
 use Rattle.laws.specs.Buffers.{onto}

@@ -1,6 +1,6 @@
 -- `request_writer::put_filter` meets its contract. The invariant, `Putting`: the conditions before this one stand at the front.
 -- Assumes nothing.
-use Prim.Native.Nat.{ℕ, _≤_, _+_, _-_}
+use Prim.Native.Nat.{_≤_, _+_, _-_}
 use mathlib.Core.Path.{_≡_}
 use native.Mathlib.Omega.{arith}
 use lib.ListN.{length, getD, drop}

@@ -1,6 +1,6 @@
 -- `request_writer::write_request` meets its contract: the elements are laid out in an array of their own, so that a refused call writes none.
 -- Assumes nothing.
-use Prim.Native.Nat.{ℕ, _-_, _≤_}
+use Prim.Native.Nat.{_-_}
 use mathlib.Core.Path.{_≡_, sym, ap, _∙_}
 use native.Mathlib.Omega.{arith}
 use lib.ListN.{length}
