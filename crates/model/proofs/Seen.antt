@@ -21,7 +21,7 @@ use Rattle.model.specs.Model.{Address, Requester, Station, Call, clock, 
 use Rattle.requests.specs.Requests.{readRequest}
 use Rattle.events.specs.Log.{capacity, pushed, entryOf}
 use Rattle.model.specs.Requesters.{badList, newRequester, find, put}
-use Rattle.model.specs.Stations.{refusedFor, tickRequester, tick, lowerRequester, logRequester, logEntry, logCall, Served, served, withRequester, serveFound, serveListed, takeKind, takeRequest, frameCall, giveEvents, giveDiagnostics, ifOutstanding, octetsOf, giveKind, giveReport, reportCall, renameWith, rename, act, readingOf, step}
+use Rattle.model.specs.Stations.{refusedFor, tickRequester, tick, lowerRequester, logRequester, logEntry, logCall, Served, withRequester, serveFound, serveListed, takeKind, takeRequest, frameCall, giveEvents, giveDiagnostics, ifOutstanding, octetsOf, giveKind, giveReport, reportCall, renameWith, rename, act, readingOf, step}
 use Rattle.model.specs.Runs.{sender, Reply, reply, toSender}
 use Rattle.model.specs.Independence.{quietFor, quiet}
 

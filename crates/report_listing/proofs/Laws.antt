@@ -1,10 +1,10 @@
 -- Laws of words: written one list behind another; where there is room for all, they are written whole.
 -- Assumes nothing.
-use Prim.Native.Nat.{ℕ, _+_, _≤_}
-use mathlib.Core.Path.{_≡_, refl, sym, ap, _∙_}
+use Prim.Native.Nat.{ℕ, _+_}
+use mathlib.Core.Path.{_≡_, refl, _∙_}
 use mathlib.Core.List.{List, [], _∷_, _++_}
-use Rattle.laws.specs.Buffers.{Written, wrote, putAt}
-use Rattle.report_listing.specs.Listing.{putWords, joined}
+use Rattle.laws.specs.Buffers.{wrote, putAt}
+use Rattle.report_listing.specs.Listing.{putWords}
 
 words-append : (a b : List (List ℕ)) (at : ℕ) (s : List ℕ) → putWords (a ++ b) at s ≡ putWords b (putWords a at s .answer) (putWords a at s .octets)
 unfolding putWords

@@ -158,11 +158,8 @@ module _ {R : Type 0} {next : R → Option (Piece R)} {q : R} {s buf : List ℕ}
 -- ---- a report frame
 
 module _ {R : Type 0} (next : R → Option (Piece R)) (action dialog : ℕ) (q : R) (s b y : List ℕ) (end n : ℕ) (done : Bool) (rest : R)
-    (long : 260 ≤ length s) (is : end ≡ min (length b) longestFrame) (header : b ≡ onto (category ∷ action ∷ dialog ∷ []) s)
+    (long : 260 ≤ length s) (ends : end ≡ min (length s) longestFrame) (header : b ≡ onto (category ∷ action ∷ dialog ∷ []) s)
     (f : FilledAs next q (take (end - 3) (drop 3 b)) y n done rest) where
-  ends : end ≡ min (length s) longestFrame
-  ends = is ∙ ap (λ (k : ℕ). min k longestFrame) (ap length header ∙ length-onto (category ∷ action ∷ dialog ∷ []) s (omega arith))
-
   frame-room : length (take (end - 3) (drop 3 b)) ≡ room s - 3
   frame-room =
       lent-length (category ∷ action ∷ dialog ∷ []) [] s b [] 3 (end - 3) refl header (omega (arith, ends)) ∙ ap (λ (k : ℕ). k - 3) ends

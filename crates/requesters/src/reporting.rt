@@ -16,11 +16,13 @@ use octets::causes;
 use octets::numbers;
 use octets::put;
 ghost use mathlib.Core.Path.{_≡_};
-ghost use Prim.Native.Nat.{_≤_};
+ghost use Prim.Native.Nat.{_≤_, min};
 ghost use lib.ListN.{length, take};
-ghost use mathlib.Core.List.{[]};
+ghost use mathlib.Core.List.{[], _∷_};
 ghost use mathlib.Core.Option.{none};
 ghost use Rattle.octets.specs.declared.numbers.Kind.the-variants.{Event, Diagnostic};
+ghost use Rattle.laws.specs.Buffers.{onto};
+ghost use Rattle.octets.specs.Numbers.{category, longestFrame, reportAction};
 ghost use Rattle.events.specs.Log.{logged};
 ghost use Rattle.model.specs.Events.{nextEvent};
 ghost use Rattle.model.specs.Diagnostics.{nextDiagnostic};
@@ -61,15 +63,23 @@ fn after_diagnostics(r: DiagnosticRequest, f: Answered) -> DiagnosticRequest
     }
 }
 
+// The header at the front of a buffer; where the room for elements behind it ends.
+fn put_header(buf: &mut [u8], kind: Kind, dialog: u8) -> usize
+    requires { ⌜ 260 ≤ length (now buf) ⌝ }
+    ensures { λ r. ⌜ (r ≡ min (length (now (buf .entry))) longestFrame) × (now (buf .exit) ≡ onto (category ∷ reportAction kind ∷ dialog ∷ []) (now (buf .entry))) ⌝ }
+{
+    let header = [numbers::CATEGORY, kind.report_action(), dialog];
+    put(buf, 0, &header);
+    least(buf.len(), numbers::LONGEST_FRAME)
+}
+
 // An Event Report frame.
 fn frame_events(log: Log, r: EventRequest, buf: &mut [u8]) -> Filled
     requires { ⌜ 260 ≤ length (now buf) ⌝ }
     ensures { λ f. ⌜ f .wrote ≤ 2301 ⌝ }
     ensures { λ f. ⌜ FramedAs (nextEvent (logged log)) 1 (r .dialog) (eventsAt r (progressOf r)) (now (buf .entry)) (now (buf .exit)) (f .wrote) (f .done) (eventsAt r (f .after)) ⌝ }
 {
-    let header = [numbers::CATEGORY, 1, r.dialog];
-    put(buf, 0, &header);
-    let end = least(buf.len(), numbers::LONGEST_FRAME);
+    let end = put_header(buf, Kind::Event, r.dialog);
     fill_events(log, r, &mut buf[3..end])
 }
 
@@ -84,9 +94,7 @@ fn frame_diagnostics(
     ensures { λ f. ⌜ f .wrote ≤ 2301 ⌝ }
     ensures { λ f. ⌜ FramedAs (nextDiagnostic (take len (now (identity .entry)))) 3 (r .dialog) (left (r .first) (r .count) (r .elements)) (now (buf .entry)) (now (buf .exit)) (f .wrote) (f .done) (left (f .first) (r .count) (r .elements)) ⌝ }
 {
-    let header = [numbers::CATEGORY, 3, r.dialog];
-    put(buf, 0, &header);
-    let end = least(buf.len(), numbers::LONGEST_FRAME);
+    let end = put_header(buf, Kind::Diagnostic, r.dialog);
     fill_diagnostics(r, identity, len, &mut buf[3..end])
 }
 

@@ -5,7 +5,6 @@ use mathlib.Core.Path.{_≡_, refl, sym, ap, _∙_}
 use mathlib.Core.Bool.{Bool, true, false}
 use mathlib.Core.List.{List, [], _∷_, _++_, map}
 use mathlib.Core.Option.{none, some}
-use lib.Dec.{eqb, ltb}
 use lib.ListN.{length, take, drop}
 use lib.Seq.{take-length, take-at}
 use borrow.Author.Tests.{ltb-false, eq-eqb, ne-eqb}

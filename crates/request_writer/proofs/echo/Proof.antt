@@ -5,7 +5,6 @@ use native.Mathlib.Omega.{arith}
 use lib.ListN.{length, replicate}
 use lib.Seq.{length-take-le}
 use Rattle.laws.proofs.Arrays.{length-mapped}
-use Rattle.requests.proofs.Found.{All}
 use Rattle.request_writer.specs.Writer.{Outcome}
 use Rattle.request_writer.proofs.Shapes.{shaped}
 use Rattle.request_writer.proofs.RoundTrip.{answer-bounded, echo-read}

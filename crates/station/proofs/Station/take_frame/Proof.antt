@@ -6,7 +6,6 @@ use mathlib.Core.List.{[]}
 use Rattle.requests.specs.declared.Request.{Request}
 use Rattle.model.specs.Stations.{frameCall, takeRequest, act, readingOf, step}
 use Rattle.requesters.specs.Views.{viewRequester, viewServed}
-use Rattle.events.specs.Log.{logged}
 use Rattle.station.specs.Views.{view}
 use Rattle.station.proofs.CallLaws.{call-unlisted, call-served, frame-group, frame-other}
 use borrow.Author.Needs.{needs}
