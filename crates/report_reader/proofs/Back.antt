@@ -2,7 +2,7 @@
 -- Assumes nothing.
 use Prim.Native.Nat.{ℕ, suc, _+_, _-_, _≤_, _<_}
 use mathlib.Core.Path.{_≡_, refl, sym, ap, _∙_}
-use mathlib.Core.Bool.{Bool, true, false, not, _&&_}
+use mathlib.Core.Bool.{Bool, true, false, not}
 use mathlib.Core.List.{List, [], _∷_, _++_, map, map-append, append-assoc, append-nil}
 use lib.ListN.{length, getD, take, drop, length-append, length-drop, length-map, List·getD-append}
 use lib.Seq.{take-all, take-at, take-append-le, drop-append-le, drop-drop}
@@ -18,11 +18,11 @@ use Rattle.laws.proofs.Parts.{stands-at, stands-first, stands-length, stands-be
 use Rattle.laws.proofs.Pieces.{Each, along}
 use Rattle.octets.specs.declared.numbers.Kind.{Kind}
 use Rattle.octets.specs.declared.numbers.Kind.the-variants.{Event, Diagnostic}
-use Rattle.octets.specs.Numbers.{category, reportAction, reportId, successful, shortestFrame, longestFrame}
+use Rattle.octets.specs.Numbers.{category, reportAction, reportId, longestFrame}
 use Rattle.octets.specs.Refusals.{noRefusal}
 use Rattle.octets.specs.Addresses.{isGroup}
 use Rattle.octets.specs.Times.{goodTime}
-use Rattle.octets.specs.Elements.{framed, pieceEnd}
+use Rattle.octets.specs.Elements.{framed}
 use Rattle.octets.proofs.ElementLaws.{piece-stands}
 use Rattle.octets.proofs.FieldLaws.{pair-halves}
 use Rattle.subelements.specs.declared.Subelements.{Subelements}
@@ -32,8 +32,7 @@ use Rattle.events.specs.declared.Transition.{Transition}
 use Rattle.events.specs.Log.{bodyOf, entryOf}
 use Rattle.reports.specs.Reports.{reportElement}
 use Rattle.report_reader.specs.declared.Event.{Event as Fields}
-use Rattle.report_reader.specs.declared.Report.{Report}
-use Rattle.report_reader.specs.Reader.{part, eventAt, plainElement, loggedElement, foundStep, plainStep, loggedStep, bareStep, transitionStep, eventStep, walkedStep, diagnosticStep, kindStep, ownStep, stepAt, judgedReport, readReport, reading, gathered, unread, readStep, readElements, viewed}
+use Rattle.report_reader.specs.Reader.{part, eventAt, plainElement, loggedElement, foundStep, plainStep, loggedStep, bareStep, transitionStep, eventStep, walkedStep, diagnosticStep, ownStep, stepAt, judgedReport, readReport, reading, gathered, unread, readStep, readElements}
 use Rattle.report_reader.specs.Sent.{Sent, sentOctets, sentFrame, EventSent, plain, logged, kept, DiagnosticSent, listed, Piece, subelements, fieldsOf, transitionEvent}
 use Rattle.report_reader.proofs.Laws.{agrees}
 

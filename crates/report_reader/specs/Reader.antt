@@ -20,7 +20,6 @@ use Rattle.subelements.specs.declared.Subelements.{Subelements}
 use Rattle.subelements.specs.Subelements.{walk}
 use Rattle.report_reader.specs.declared.Event.{Event}
 use Rattle.report_reader.specs.declared.Element.{Element}
-use Rattle.report_reader.specs.declared.Cursor.{Cursor}
 use Rattle.report_reader.specs.declared.Step.{Step}
 use Rattle.report_reader.specs.declared.Walk.{Walk}
 use Rattle.report_reader.specs.declared.Report.{Report}

@@ -16,9 +16,8 @@ use subelements::walk_edges;
 use units::TimeUnits;
 ghost use mathlib.Core.Path.{_≡_};
 ghost use Prim.Native.Nat.{_+_, _^_, _≤_, _<_};
-ghost use lib.ListN.{length, getD};
-ghost use Rattle.octets.specs.Elements.{pieceEnd};
-ghost use Rattle.report_reader.specs.Reader.{part, noEvent, eventAt, plainElement, refusedStep, skippedStep, plainStep, loggedStep, bareStep, transitionStep, eventStep, walkedStep, diagnosticStep, ownStep, stepAt, atWalk, advanced, refusedReport, judgedReport, readReport};
+ghost use lib.ListN.{length};
+ghost use Rattle.report_reader.specs.Reader.{part, noEvent, eventAt, refusedStep, skippedStep, plainStep, loggedStep, bareStep, transitionStep, eventStep, walkedStep, diagnosticStep, ownStep, stepAt, atWalk, advanced, refusedReport, judgedReport, readReport};
 ghost use Rattle.report_reader.specs.Reader.{judge as Reader·judge};
 
 // A reported transition; the signals are source RCPI, source RSNI, target RCPI and target RSNI.

@@ -5,11 +5,11 @@ use mathlib.Core.Path.{_≡_, refl, sym, ap, _∙_}
 use mathlib.Core.List.{List, [], _∷_, _++_, append-nil}
 use native.Mathlib.Nat.{zero-add, zero-min, min-zero, suc-min-suc}
 use native.Mathlib.Omega.{arith}
-use lib.ListN.{length, take, drop, length-append}
-use Rattle.laws.specs.Buffers.{onto, Written, wrote, putFront, putAt}
+use lib.ListN.{length, take, length-append}
+use Rattle.laws.specs.Buffers.{wrote, putFront, putAt}
 use Rattle.laws.proofs.Buffers.{Putting, putting-start, putting-at, putting-done, putting-end, put-front-fits}
 use Rattle.octets.specs.declared.numbers.Kind.{Kind}
-use Rattle.octets.specs.declared.numbers.Kind.the-variants.{Event, Diagnostic}
+use Rattle.octets.specs.declared.numbers.Kind.the-variants.{Event}
 use Rattle.octets.specs.Numbers.{successful}
 use Rattle.events.specs.declared.Entry.{Entry}
 use Rattle.reports.specs.Reports.{reportElement, eventElement, reportHead}

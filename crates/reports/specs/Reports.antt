@@ -3,7 +3,7 @@
 use Prim.Native.Nat.{ℕ, _+_}
 use mathlib.Core.List.{List, [], _∷_, _++_}
 use Rattle.octets.specs.declared.numbers.Kind.{Kind}
-use Rattle.octets.specs.declared.numbers.Kind.the-variants.{Event, Diagnostic}
+use Rattle.octets.specs.declared.numbers.Kind.the-variants.{Event}
 use Rattle.octets.specs.Numbers.{reportId, successful}
 use Rattle.octets.specs.Elements.{framed}
 use Rattle.events.specs.declared.Entry.{Entry}

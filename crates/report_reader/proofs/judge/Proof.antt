@@ -1,11 +1,11 @@
 -- `report_reader::judge` meets its contract. The invariant, `Rest`: what is left of the walk gives what the whole walk gives.
 -- Assumes nothing.
 use Prim.Native.Nat.{_-_, _≤_}
-use mathlib.Core.Path.{_≡_, refl, sym, _∙_}
+use mathlib.Core.Path.{_≡_, refl, _∙_}
 use native.Mathlib.Omega.{arith}
 use lib.ListN.{length}
 use Rattle.laws.proofs.Walk.{Rest, start, last, again, done, go-on, stop-refused, stop-end}
-use Rattle.report_reader.specs.Reader.{advanced, more, judgeStep, judge}
+use Rattle.report_reader.specs.Reader.{more, judgeStep, judge}
 use Rattle.report_reader.proofs.Laws.{moved}
 use borrow.Author.Needs.{needs}
 use Rattle.report_reader.proofs.judge.Statement.{statement}

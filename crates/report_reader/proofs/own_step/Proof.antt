@@ -1,6 +1,5 @@
 -- `report_reader::own_step` meets its contract: each return rewrites with the tests that led there.
 -- Assumes nothing.
-use mathlib.Core.Path.{_≡_, sym}
 use borrow.Author.Tests.{lt-ltb, le-ltb}
 use Rattle.laws.specs.Choice.{if_then_else_}
 use Rattle.report_reader.specs.Reader.{ownStep}

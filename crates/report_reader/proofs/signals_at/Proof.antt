@@ -1,10 +1,8 @@
 -- `report_reader::signals_at` meets its contract.
 -- Assumes nothing.
-use Prim.Native.Nat.{_+_}
-use mathlib.Core.Path.{_≡_, sym, ap, _∙_}
+use mathlib.Core.Path.{sym}
 use native.Mathlib.Nat.{add-zero}
 use native.Mathlib.Omega.{arith}
-use lib.ListN.{take, drop}
 use Rattle.report_reader.proofs.Laws.{spelt, part-spelt}
 use borrow.Author.Needs.{needs}
 use Rattle.report_reader.proofs.signals_at.Statement.{statement}

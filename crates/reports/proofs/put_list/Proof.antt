@@ -1,7 +1,7 @@
 -- `reports::put_list` meets its contract.
 -- Assumes nothing.
-use mathlib.Core.Path.{_≡_, sym, _∙_}
-use lib.ListN.{length, take}
+use mathlib.Core.Path.{_≡_}
+use lib.ListN.{length}
 use Rattle.reports.proofs.Laws.{take-clamped}
 use borrow.Author.Needs.{needs}
 use Rattle.reports.proofs.put_list.Statement.{statement}

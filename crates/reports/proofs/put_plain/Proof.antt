@@ -1,7 +1,6 @@
 -- `reports::put_plain` meets its contract.
 -- Assumes nothing.
-use mathlib.Core.Path.{_≡_, sym, _∙_}
-use mathlib.Core.List.{[]}
+use mathlib.Core.Path.{_∙_}
 use Rattle.reports.specs.Reports.{reportElement}
 use Rattle.reports.proofs.Laws.{put-at-front}
 use borrow.Author.Needs.{needs}

@@ -1,7 +1,7 @@
 -- `reports::put_rest` meets its contract: head and list stand one behind the other.
 -- Assumes nothing.
 use native.Mathlib.Omega.{arith}
-use mathlib.Core.Path.{_≡_, sym, ap, _∙_}
+use mathlib.Core.Path.{_≡_, sym, _∙_}
 use lib.ListN.{length, take}
 use lib.Seq.{length-take-le}
 use Rattle.laws.proofs.Buffers.{put-front-short}
