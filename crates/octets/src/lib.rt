@@ -2,6 +2,7 @@
 // is turned away"): numbers, refusals, fields, addresses, elements' edges, times, and text.
 mod addresses;
 pub mod causes;
+mod counts;
 mod elements;
 mod fields;
 pub mod numbers;
@@ -12,6 +13,8 @@ mod times;
 pub use addresses::address_at;
 pub use addresses::is_group;
 pub use addresses::same_address;
+pub use counts::least;
+pub use counts::less_one;
 pub use elements::piece_end;
 pub use fields::high;
 pub use fields::low;

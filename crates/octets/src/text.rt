@@ -1,7 +1,8 @@
 // Text into a buffer: octets, decimal numbers, octets in hexadecimal. All of it or nothing.
+use crate::counts::less_one;
 ghost use mathlib.Core.Path.{_≡_};
 ghost use mathlib.Core.Bool.{_&&_};
-ghost use Prim.Native.Nat.{_+_, _-_, _%_, _<_};
+ghost use Prim.Native.Nat.{_%_, _<_};
 ghost use lib.Dec.{eqb, leb};
 ghost use Rattle.laws.specs.Buffers.{wrote, putAt};
 ghost use Rattle.octets.specs.Text.{digit as Text·digit, decimal, hex};
@@ -43,12 +44,6 @@ fn is_first(rest: u64, least: usize) -> bool
         return false;
     }
     least <= 1
-}
-
-fn less_one(n: usize) -> usize
-    ensures { λ r. ⌜ r ≡ n - 1 ⌝ }
-{
-    if 0 < n { n - 1 } else { 0 }
 }
 
 // A number in decimal, with zeros in front of it up to a number of digits.

@@ -2,6 +2,7 @@
 // the part of a report buffer that is lent, or not at all.
 use events::Entry;
 use octets::Kind;
+use octets::least;
 use octets::numbers;
 use octets::put;
 ghost use mathlib.Core.Path.{_≡_};
@@ -13,12 +14,6 @@ ghost use Rattle.reports.specs.Reports.{reportHead, reportElement, event
 
 // The longest list behind token, type and status.
 const LONGEST_LIST: usize = 252;
-
-fn least(a: usize, b: usize) -> usize
-    ensures { λ r. ⌜ r ≡ min a b ⌝ }
-{
-    if a <= b { a } else { b }
-}
 
 // The octets of a report element up to its status, with so many octets behind them.
 fn head_of(kind: Kind, token: u8, ty: u8, status: u8, rest: usize) -> [u8; 5]

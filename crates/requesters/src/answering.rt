@@ -1,10 +1,10 @@
 // Diagnostic reports: the elements of a request, each with one report.
 use crate::DiagnosticRequest;
 use crate::diagnostics::diagnostic_treatment;
-use crate::giving::least;
 use model::Diagnostic;
 use model::Treatment;
 use octets::Kind;
+use octets::least;
 use octets::numbers;
 use reports::put_list;
 use reports::put_plain;

@@ -1,8 +1,8 @@
 // Diagnostic requests: the late drop, and what an accepted frame leaves.
-use crate::counts::within;
 use crate::dialogs::is_repeated;
 use model::Diagnostic;
 use model::Treatment;
+use octets::least;
 use requesters::DiagnosticRequest;
 use requesters::diagnostic_treatment;
 use requests::Element;
@@ -69,7 +69,7 @@ fn kept(d: DiagnosticRequest, reading: Milliseconds) -> Diagnostics
 {
     let accepted = d.accepted;
     let elements = d.elements;
-    let end = within(d.count, 8);
+    let end = least(d.count, 8);
     let mut i = d.first;
     let mut k = Diagnostics { count: 0, elements };
     while i < end {
@@ -105,7 +105,7 @@ fn diagnostics_of(q: Request) -> Diagnostics
     ensures { λ r. ⌜ (listed r ≡ diagnosticsOf q) × (r .count ≤ 8) ⌝ }
 {
     let asked = q.elements;
-    let end = within(q.count, 8);
+    let end = least(q.count, 8);
     let mut elements = [Diagnostic {
         token: 0,
         ty: 0,
@@ -138,7 +138,7 @@ fn holds_cancel(k: Diagnostics) -> bool
     ensures { λ r. ⌜ r ≡ holdsCancel (listed k) ⌝ }
 {
     let elements = k.elements;
-    let end = within(k.count, 8);
+    let end = least(k.count, 8);
     let mut i: usize = 0;
     while i < end {
         let x = elements[i];

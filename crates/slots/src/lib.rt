@@ -1,12 +1,10 @@
 // The slots of a station's requesters (document 01: consoles): the list that names them, the one that
 // an address finds, and what a frame, a clock reading and the log make of them.
-mod counts;
 mod diagnostics;
 mod dialogs;
 mod event_requests;
 mod lists;
 
-pub use counts::within;
 pub use diagnostics::take_diagnostics;
 pub use event_requests::take_events;
 pub use lists::bad_list;

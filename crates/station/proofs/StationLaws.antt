@@ -6,7 +6,7 @@ use mathlib.Core.Bool.{Bool, true, false}
 use mathlib.Core.List.{List, [], _∷_, _++_, map}
 use mathlib.Core.Option.{none, some}
 use lib.ListN.{length, take, drop}
-use lib.Seq.{take-length, take-at}
+use lib.Seq.{take-length, take-at, take-all}
 use borrow.Author.Tests.{ltb-false, eq-eqb, ne-eqb}
 use native.Mathlib.Omega.{arith}
 use Rattle.laws.specs.Choice.{if_then_else_}
@@ -65,11 +65,11 @@ unfolding viewIdentity if_then_else_
 view-some n o e = rw (ne-eqb n 0 e)
 
 -- a station that names the requesters of a list
-pub view-named : (n : ℕ) (o : List ℕ) (log : Log) (rs : List Code·Requester) (l : List Address) → (n ≡ 0 → ⊥)
-    → map viewRequester (take (length l) rs) ≡ map newRequester l
+pub view-named : (n : ℕ) (o : List ℕ) (log : Log) (rs : List Code·Requester) (l : List Address) → (n ≡ 0 → ⊥) → length l ≤ 4
+    → map viewRequester (take (length l) rs) ≡ map newRequester (take 4 l)
     → view (record { identity = o; length = n; log = log; requesters = rs; count = length l }) ≡ newStation (take n o) (logged log) l
 unfolding view
-view-named n o log rs l h e = rw (view-some n o h, e)
+view-named n o log rs l h few e = rw (view-some n o h, e, take-all 4 l few)
 
 -- an identity that was copied to the front of an array
 pub copied-front : (s o y : List ℕ) → y ≡ take (length s) s ++ drop (length s) o → take (length s) y ≡ s

@@ -19,12 +19,12 @@ Inv-loop asked end elements₀ i₀ elements i = (i ≤ end) × (end ≤ 8) × (
 abbrev μ-loop : tie.MeasureT-loop
 μ-loop asked end elements₀ i₀ elements i = end - i
 
-within-requires : tie.Need-within-requires Inv-loop μ-loop
-within-requires c κs = search needs
+least-requires : tie.Need-least-requires Inv-loop μ-loop
+least-requires c κs = search needs
 
 loop-holds : tie.Need-loop-holds Inv-loop μ-loop
 loop-holds c =
-    let eight : length (c .before .before .args .q .elements) ≡ 8 = search (needs, length-mapped) in (omega arith, omega (arith, c .within .ensures), eight, search needs, refl)
+    let eight : length (c .before .before .args .q .elements) ≡ 8 = search (needs, length-mapped) in (omega arith, omega (arith, c .least .ensures), eight, search needs, refl)
 
 mul-diagnostic-of : tie.Need-mul-diagnostic-of Inv-loop μ-loop
 mul-diagnostic-of c = search needs
@@ -56,7 +56,7 @@ returns : tie.Need-returns Inv-loop μ-loop
 unfolding diagnosticsOf
 returns c =
     let l = c .before .loop in let q = c .before .before .before .before .args .q in
-    (mapped-within diagnosticOf (q .elements) (l .elements) (l .i) 8 (c .before .before .within .result) (q .count) (l .inv .2) (c .before .before .within .ensures) (omega arith) (l .inv .4), l .inv .1)
+    (mapped-within diagnosticOf (q .elements) (l .elements) (l .i) 8 (c .before .before .least .result) (q .count) (l .inv .2) (c .before .before .least .ensures) (omega arith) (l .inv .4), l .inv .1)
 
 pub diagnostics-of-spec : {M : Type 1} → statement M
 diagnostics-of-spec =
@@ -64,7 +64,7 @@ diagnostics-of-spec =
     (tie.spec
     Inv-loop
     μ-loop
-    within-requires
+    least-requires
     loop-holds
     mul-diagnostic-of
     array-copy-out-diagnostic-of

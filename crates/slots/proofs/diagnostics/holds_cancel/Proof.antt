@@ -19,12 +19,12 @@ Inv-loop elements end i₀ i = (end ≤ length elements) × (length elements ≡
 abbrev μ-loop : tie.MeasureT-loop
 μ-loop elements end i₀ i = end - i
 
-within-requires : tie.Need-within-requires Inv-loop μ-loop
-within-requires c κs = search needs
+least-requires : tie.Need-least-requires Inv-loop μ-loop
+least-requires c κs = search needs
 
 loop-holds : tie.Need-loop-holds Inv-loop μ-loop
 loop-holds c =
-    let eight : length (c .before .before .args .k .elements) ≡ 8 = search (needs, length-mapped) in (omega (arith, c .within .ensures), eight, refl)
+    let eight : length (c .before .before .args .k .elements) ≡ 8 = search (needs, length-mapped) in (omega (arith, c .least .ensures), eight, refl)
 
 mul-x : tie.Need-mul-x Inv-loop μ-loop
 mul-x c = search needs
@@ -40,12 +40,12 @@ is-cancel-requires c κs = search needs
 
 returns : tie.Need-returns Inv-loop μ-loop
 returns c =
-    let l = c .before .before .before .before .before .loop in let k = c .before .before .before .before .before .before .before .before .args .k in let n = c .before .before .before .before .before .before .within .result in
-    let size = length-within (k .elements) 8 n (l .inv .1) (k .count) (c .before .before .before .before .before .before .within .ensures) in
+    let l = c .before .before .before .before .before .loop in let k = c .before .before .before .before .before .before .before .before .args .k in let n = c .before .before .before .before .before .before .least .result in
+    let size = length-within (k .elements) 8 n (l .inv .1) (k .count) (c .before .before .before .before .before .before .least .ensures) in
     let h : l .i < length (take n (k .elements)) = omega (arith, c .before .before .before .before .loop-test .taken) in
     let x = getD (k .elements) (l .i) pastDiagnostics in
     let e = sym (c .before .is-cancel .ensures ∙ ap isCancel (c .before .before .diagnostic-treatment .ensures)) ∙ c .if1 .taken in
-    cancel-here (take n (k .elements)) (l .i) x h (getD-take n (k .elements) (l .i) pastDiagnostics (c .before .before .before .before .loop-test .taken)) e ∙ l .inv .2 ∙ ap holdsCancel (take-within (k .elements) 8 n (l .inv .1) (k .count) (c .before .before .before .before .before .before .within .ensures))
+    cancel-here (take n (k .elements)) (l .i) x h (getD-take n (k .elements) (l .i) pastDiagnostics (c .before .before .before .before .loop-test .taken)) e ∙ l .inv .2 ∙ ap holdsCancel (take-within (k .elements) 8 n (l .inv .1) (k .count) (c .before .before .before .before .before .before .least .ensures))
 
 add-i : tie.Need-add-i Inv-loop μ-loop
 add-i c = omega arith
@@ -55,8 +55,8 @@ loop-less c = omega arith
 
 loop-again : tie.Need-loop-again Inv-loop μ-loop
 loop-again c =
-    let l = c .before .before .before .before .before .loop in let k = c .before .before .before .before .before .before .before .before .args .k in let n = c .before .before .before .before .before .before .within .result in
-    let size = length-within (k .elements) 8 n (l .inv .1) (k .count) (c .before .before .before .before .before .before .within .ensures) in
+    let l = c .before .before .before .before .before .loop in let k = c .before .before .before .before .before .before .before .before .args .k in let n = c .before .before .before .before .before .before .least .result in
+    let size = length-within (k .elements) 8 n (l .inv .1) (k .count) (c .before .before .before .before .before .before .least .ensures) in
     let h : l .i < length (take n (k .elements)) = omega (arith, c .before .before .before .before .loop-test .taken) in
     let x = getD (k .elements) (l .i) pastDiagnostics in
     let e = sym (c .before .is-cancel .ensures ∙ ap isCancel (c .before .before .diagnostic-treatment .ensures)) ∙ c .if1 .left in
@@ -64,9 +64,9 @@ loop-again c =
 
 returns-2 : tie.Need-returns-2 Inv-loop μ-loop
 returns-2 c =
-    let l = c .before .loop in let k = c .before .before .before .before .args .k in let n = c .before .before .within .result in
-    let size = length-within (k .elements) 8 n (l .inv .1) (k .count) (c .before .before .within .ensures) in
-    cancel-none (take n (k .elements)) (l .i) (omega arith) ∙ l .inv .2 ∙ ap holdsCancel (take-within (k .elements) 8 n (l .inv .1) (k .count) (c .before .before .within .ensures))
+    let l = c .before .loop in let k = c .before .before .before .before .args .k in let n = c .before .before .least .result in
+    let size = length-within (k .elements) 8 n (l .inv .1) (k .count) (c .before .before .least .ensures) in
+    cancel-none (take n (k .elements)) (l .i) (omega arith) ∙ l .inv .2 ∙ ap holdsCancel (take-within (k .elements) 8 n (l .inv .1) (k .count) (c .before .before .least .ensures))
 
 pub holds-cancel-spec : {M : Type 1} → statement M
 holds-cancel-spec =
@@ -74,7 +74,7 @@ holds-cancel-spec =
     (tie.spec
     Inv-loop
     μ-loop
-    within-requires
+    least-requires
     loop-holds
     mul-x
     array-copy-out-x

@@ -22,12 +22,12 @@ Inv-loop reading accepted elements end i₀ k₀ i k = (k .count ≤ i) × (k .c
 abbrev μ-loop : tie.MeasureT-loop
 μ-loop reading accepted elements end i₀ k₀ i k = end - i
 
-within-requires : tie.Need-within-requires Inv-loop μ-loop
-within-requires c κs = search needs
+least-requires : tie.Need-least-requires Inv-loop μ-loop
+least-requires c κs = search needs
 
 loop-holds : tie.Need-loop-holds Inv-loop μ-loop
 loop-holds c =
-    let eight : length (c .before .before .before .args .d .elements) ≡ 8 = search (needs, length-mapped) in (omega arith, omega arith, omega (arith, c .within .ensures), eight, refl)
+    let eight : length (c .before .before .before .args .d .elements) ≡ 8 = search (needs, length-mapped) in (omega arith, omega arith, omega (arith, c .least .ensures), eight, refl)
 
 mul-keep : tie.Need-mul-keep Inv-loop μ-loop
 mul-keep c = search needs
@@ -46,16 +46,16 @@ loop-less c = omega arith
 
 loop-again : tie.Need-loop-again Inv-loop μ-loop
 loop-again c =
-    let l = c .before .before .before .loop in let d = c .before .before .before .before .before .before .before .args .d in let n = c .before .before .before .before .within .result in
-    let size = length-within (d .elements) 8 n (l .inv .3) (d .count) (c .before .before .before .before .within .ensures) in
+    let l = c .before .before .before .loop in let d = c .before .before .before .before .before .before .before .args .d in let n = c .before .before .before .before .least .result in
+    let size = length-within (d .elements) 8 n (l .inv .3) (d .count) (c .before .before .before .before .least .ensures) in
     let h : l .i < length (take n (d .elements)) = omega arith in
     (omega (arith, c .keep .ensures .1), omega (arith, c .keep .ensures .1), l .inv .2, l .inv .3, on-time-next (c .before .before .before .before .before .before .before .args .reading .0) (d .accepted .0) (take n (d .elements)) (l .i) pastDiagnostics (getD (d .elements) (l .i) pastDiagnostics) (listed (l .k)) (listed (c .keep .result)) _ h (getD-take n (d .elements) (l .i) pastDiagnostics (c .before .before .loop-test .taken)) (l .inv .4) (c .keep .ensures .0))
 
 returns : tie.Need-returns Inv-loop μ-loop
 returns c =
-    let l = c .before .loop in let d = c .before .before .before .before .before .args .d in let n = c .before .before .within .result in
-    let size = length-within (d .elements) 8 n (l .inv .3) (d .count) (c .before .before .within .ensures) in
-    (on-time-end (c .before .before .before .before .before .args .reading .0) (d .accepted .0) (take n (d .elements)) (l .i) (listed (l .k)) _ (omega arith) (l .inv .4) ∙ ap (λ (x : List Diagnostic). onTime (c .before .before .before .before .before .args .reading .0) (d .accepted .0) (drop (d .first) x)) (take-within (d .elements) 8 n (l .inv .3) (d .count) (c .before .before .within .ensures)), l .inv .1)
+    let l = c .before .loop in let d = c .before .before .before .before .before .args .d in let n = c .before .before .least .result in
+    let size = length-within (d .elements) 8 n (l .inv .3) (d .count) (c .before .before .least .ensures) in
+    (on-time-end (c .before .before .before .before .before .args .reading .0) (d .accepted .0) (take n (d .elements)) (l .i) (listed (l .k)) _ (omega arith) (l .inv .4) ∙ ap (λ (x : List Diagnostic). onTime (c .before .before .before .before .before .args .reading .0) (d .accepted .0) (drop (d .first) x)) (take-within (d .elements) 8 n (l .inv .3) (d .count) (c .before .before .least .ensures)), l .inv .1)
 
 pub kept-spec : {M : Type 1} → statement M
 kept-spec =
@@ -63,7 +63,7 @@ kept-spec =
     (tie.spec
     Inv-loop
     μ-loop
-    within-requires
+    least-requires
     loop-holds
     mul-keep
     array-copy-out-keep
