@@ -1,32 +1,21 @@
 -- Laws of arrays: of structs, filled from the front, and mapped in place.
 -- Assumes nothing.
-use Prim.Native.Nat.{ℕ, zero, suc, _+_, _<_}
+use Prim.Native.Nat.{ℕ, zero, suc, _+_, _≤_, _<_, min}
 use mathlib.Core.Path.{_≡_, refl, sym, ap, _∙_}
+use mathlib.Core.Bool.{Bool, true, false}
 use mathlib.Core.List.{List, [], _∷_, _++_, map, map-append, append-assoc, append-nil}
+use mathlib.Core.Option.{none, some}
 use native.Mathlib.Numerals.{add-one}
 use native.Mathlib.Nat.{add-zero, le-of-suc-le-suc, not-suc-le-zero}
 use native.Mathlib.Omega.{arith}
-use lib.ListN.{length, getD, take, drop, set, length-take, length-map, drop-of-length-le}
-use lib.Seq.{drop-cons, take-suc, take-all, set-at, getD-at, append-snoc, getD-append-add, getD-drop}
-use mir.Val.{Val}
-use base.Fml.{Fml}
-use denote.Array.{each}
-use denote.Shadow.{shadow}
+use lib.Dec.{leb}
+use lib.ListN.{length, getD, getElem?, take, drop, set, length-take, length-map, drop-of-length-le}
+use lib.Seq.{drop-cons, take-suc, take-suc-set, take-all, set-at, getD-at, getD-take, append-snoc, getD-append-add, getD-drop}
+use borrow.Author.Tests.{leb-true, leb-false}
 
--- ---- structs: what owning an array of them tells
-
--- of its length
+-- ---- structs: what owning an array of them tells of its length
 pub length-mapped : (X Y : Type 0) (f : X → Y) (l : List X) (n : ℕ) → length (map f l) ≡ n → length l ≡ n
 length-mapped X Y f l n e = sym (length-map l f) ∙ e
-
--- of each element
-pub each-at : (D E : Type 0) (f : E → List Val → Fml) (into : D → E) (P : D → Type 0) (d : D)
-    → ((x : D) (u : Val) → shadow (f (into x) (u ∷ [])) → P x)
-    → (xs : List D) (us : List Val) (i : ℕ) → i < length xs → shadow (each E f (map into xs) us) → P (getD xs i d)
-each-at D E f into P d tells [] us i h p = absurd (not-suc-le-zero h)
-each-at D E f into P d tells (x ∷ xs) [] i h p = absurd p
-each-at D E f into P d tells (x ∷ xs) (u ∷ us) zero h p = tells x u (p .0)
-each-at D E f into P d tells (x ∷ xs) (u ∷ us) (suc i) h p = each-at D E f into P d tells xs us i (le-of-suc-le-suc h) (p .1)
 
 -- ---- an array whose first n places are filled, and whose others are blank
 module _ {A : Type 0} (done blank : List A) (d : A) (n : ℕ) (e : length done ≡ n) (h : n < length blank) where
@@ -51,11 +40,6 @@ module _ {A B : Type 0} (f : A → B) where
   map-take (suc n) [] = refl
   map-take (suc n) (x ∷ xs) = ap {B = List B} (λ r. f x ∷ r) (map-take n xs)
 
-  pub map-drop : (n : ℕ) (l : List A) → map f (drop n l) ≡ drop n (map f l)
-  map-drop zero l = refl
-  map-drop (suc n) [] = refl
-  map-drop (suc n) (x ∷ xs) = map-drop n xs
-
   pub map-set : (l : List A) (i : ℕ) (a : A) → map f (set l i a) ≡ set (map f l) i (f a)
   map-set [] i a = refl
   map-set (x ∷ xs) zero a = refl
@@ -76,3 +60,53 @@ module _ {A : Type 0} (f : A → A) (l : List A) where
 
   pub mapped-all : (n : ℕ) → length l ≡ n → mapped n ≡ map f l
   mapped-all n h = rw (take-all n l (omega arith), drop-of-length-le l {i = n} (omega arith)) (append-nil (map f l))
+
+-- ---- the first places
+
+-- what is left of the first n elements from i on, is the i-th and those behind it
+pub take-next : {A : Type 0} (xs : List A) (d : A) (n i : ℕ) → i < n → i < length xs → drop i (take n xs) ≡ getD xs i d ∷ drop (i + 1) (take n xs)
+take-next xs d n i h k = rw add-one (drop-cons (take n xs) i d (omega (arith, length-take n xs)) ∙ rw (getD-take n xs i d h))
+
+-- a count past the end counts as the end
+pub take-min : {A : Type 0} (n m : ℕ) (l : List A) → length l ≡ m → take (min n m) l ≡ take n l
+take-min {A} n m l e = go (leb n m) refl
+  where
+    go : (b : Bool) → leb n m ≡ b → take (min n m) l ≡ take n l
+    go true h =
+        let p = leb-true n m h in
+        let q : min n m ≡ n = omega arith in
+        ap (λ (k : ℕ). take k l) q
+    go false h =
+        let p = leb-false n m h in
+        take-all (min n m) l (omega arith) ∙ sym (take-all n l (omega arith))
+
+module _ {A : Type 0} (l : List A) (m end : ℕ) (e : length l ≡ m) (n : ℕ) (h : end ≡ min n m) where
+  pub take-within : take end l ≡ take n l
+  take-within = ap (λ (k : ℕ). take k l) h ∙ take-min n m l e
+
+  pub length-within : length (take end l) ≡ end
+  length-within = length-take end l ∙ omega arith
+
+-- one more place of an array that takes what f makes of another's
+pub fill-mapped : {A B : Type 0} (f : A → B) (from : List A) (to : List B) (i : ℕ) (d : A) (y : B) → i < length from → i < length to
+    → take i to ≡ map f (take i from) → y ≡ f (getD from i d) → take (i + 1) (set to i y) ≡ map f (take (i + 1) from)
+fill-mapped f from to i d y h k e q =
+    rw (add-one, take-suc-set to i y k, take-suc from i d h, map-append f (take i from) (getD from i d ∷ []), e, q)
+
+pub mapped-within : {A B : Type 0} (f : A → B) (from : List A) (to : List B) (i m end n : ℕ) → length from ≡ m → end ≡ min n m → i ≡ end
+    → take i to ≡ map f (take i from) → take end to ≡ map f (take n from)
+mapped-within {A} {B} f from to i m end n e h q p =
+    ap (λ (k : ℕ). take k to) (sym q) ∙ p ∙ ap (λ (k : ℕ). map f (take k from)) q ∙ ap (map f) (take-within from m end e n h)
+
+-- ---- one place
+
+module _ {A : Type 0} where
+  pub element-at : (l : List A) (i : ℕ) (d : A) → i < length l → getElem? l i ≡ some (getD l i d)
+  element-at [] i d h = absurd (not-suc-le-zero h)
+  element-at (x ∷ xs) zero d h = refl
+  element-at (x ∷ xs) (suc i) d h = element-at xs i d (le-of-suc-le-suc h)
+
+  pub element-past : (l : List A) (i : ℕ) → length l ≤ i → getElem? l i ≡ none
+  element-past [] i h = refl
+  element-past (x ∷ xs) zero h = absurd (not-suc-le-zero h)
+  element-past (x ∷ xs) (suc i) h = element-past xs i (le-of-suc-le-suc h)

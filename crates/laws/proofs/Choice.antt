@@ -9,3 +9,9 @@ pub either {ℓ} : {A : Type 0} (P : A → Type ℓ) (b : Bool) (x y : A) → (b
 unfolding if_then_else_
 either P true x y f g = f refl
 either P false x y f g = g refl
+
+-- a function of a choice
+pub apply-if : {A B : Type 0} (f : A → B) (b : Bool) (x y : A) → f (if b then x else y) ≡ (if b then f x else f y)
+unfolding if_then_else_
+apply-if f true x y = refl
+apply-if f false x y = refl

@@ -1,5 +1,6 @@
 pub mod Choice
 pub mod Walk
+pub mod Tests
 pub mod Parts
 pub mod Buffers
 pub mod Pieces

@@ -20,6 +20,12 @@ module _ {P : Type 0} (f : ℕ → P → List ℕ) (ps : List P) (i : ℕ) where
   unfolding pieces
   pieces-end h = rw (drop-of-length-le ps {i = i} h)
 
+-- the octets of one piece more
+pub pieces-snoc : {P : Type 0} (f : P → List ℕ) (i : ℕ) (ps : List P) (p : P) → pieces (λ (k : ℕ) (x : P). f x) i (ps ++ (p ∷ [])) ≡ pieces (λ (k : ℕ) (x : P). f x) i ps ++ f p
+unfolding pieces
+pieces-snoc f i [] p = append-nil (f p)
+pieces-snoc f i (x ∷ ps) p = ap (λ (l : List ℕ). f x ++ l) (pieces-snoc f (suc i) ps p) ∙ sym (append-assoc (f x) _ (f p))
+
 -- what each piece has, given those before it
 unfoldable pub Each : {P : Type 0} → (List P → P → Type 0) → List P → List P → Type 0
 Each F front [] = Unit {0}

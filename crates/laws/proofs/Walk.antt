@@ -59,12 +59,20 @@ module _ (n a e : ℕ) where
   pub stop-end : n ≡ 0 → e ≤ a → (eqb n 0 && ltb a e) ≡ false
   stop-end p q = simp (eq-eqb _ _ p, le-ltb _ _ q)
 
--- what every step keeps, the walk keeps
-pub keeps {ℓ} : {A : Type 0} (P : A → Type ℓ) (more : A → Bool) (step : A → A) → ((w : A) → P w → P (step w)) → (k : ℕ) (w : A) → P w → P (repeatWhile k more step w)
+-- what every step that is taken keeps, the walk keeps
+pub keeps-while : {A : Type 0} (P : A → Type 0) (more : A → Bool) (step : A → A) → ((w : A) → more w ≡ true → P w → P (step w)) → (k : ℕ) (w : A) → P w → P (repeatWhile k more step w)
 unfolding repeatWhile
-keeps P more step f zero w p = p
-keeps P more step f (suc k) w p = at-test (more w) (keeps P more step f k (step w) (f w p)) p
+keeps-while P more step f zero w p = p
+keeps-while P more step f (suc k) w p = at-test (more w) refl (λ m. keeps-while P more step f k (step w) (f w m p))
   where
-    at-test : (b : Bool) → P (repeatWhile k more step (step w)) → P w → P (elim b [ true ↦ repeatWhile k more step (step w) | false ↦ w ])
-    at-test true x y = x
-    at-test false x y = y
+    at-test : (b : Bool) → more w ≡ b → (more w ≡ true → P (repeatWhile k more step (step w))) → P (elim b [ true ↦ repeatWhile k more step (step w) | false ↦ w ])
+    at-test true m x = x m
+    at-test false m x = p
+
+pub and-first : (a b : Bool) → (a && b) ≡ true → a ≡ true
+and-first true b e = refl
+and-first false b e = e
+
+-- what every step keeps, the walk keeps
+pub keeps : {A : Type 0} (P : A → Type 0) (more : A → Bool) (step : A → A) → ((w : A) → P w → P (step w)) → (k : ℕ) (w : A) → P w → P (repeatWhile k more step w)
+keeps P more step f = keeps-while P more step (λ w _. f w)

@@ -13,7 +13,7 @@ use Rattle.octets.specs.declared.numbers.Kind.the-variants.{Event, Diagnostic}
 use Rattle.octets.specs.Addresses.{same, isGroup}
 use Rattle.octets.specs.Times.{goodTime}
 use Rattle.octets.specs.Refusals.{groupDestination, unknownRequester}
-use Rattle.octets.proofs.AddressLaws.{same-refl, same-true}
+use Rattle.octets.proofs.AddressLaws.{same-true}
 use Rattle.requests.specs.declared.Request.{Request}
 use Rattle.events.specs.declared.Entry.{Entry}
 use Rattle.events.specs.declared.Transition.{Transition}
@@ -23,23 +23,11 @@ use Rattle.events.specs.Log.{capacity, pushed, entryOf}
 use Rattle.model.specs.Requesters.{badList, newRequester, find, put}
 use Rattle.model.specs.Stations.{refusedFor, tickRequester, tick, lowerRequester, logRequester, logEntry, logCall, Served, withRequester, serveFound, serveListed, takeKind, takeRequest, frameCall, giveEvents, giveDiagnostics, ifOutstanding, octetsOf, giveKind, giveReport, reportCall, renameWith, rename, act, readingOf, step}
 use Rattle.model.specs.Runs.{sender, Reply, reply, toSender}
+use Rattle.laws.proofs.Choice.{apply-if}
+use Rattle.octets.proofs.AddressLaws.{same-sym}
 use Rattle.model.specs.Independence.{quietFor, quiet}
 
 -- ---- general
-
-pub apply-if : {A B : Type 0} (f : A → B) (b : Bool) (x y : A) → f (if b then x else y) ≡ (if b then f x else f y)
-unfolding if_then_else_
-apply-if f true x y = refl
-apply-if f false x y = refl
-
-pub same-sym : (a b : Address) → same a b ≡ same b a
-same-sym a b = go (same a b) (same b a) refl refl
-  where
-    go : (s t : Bool) → same a b ≡ s → same b a ≡ t → s ≡ t
-    go true true p q = refl
-    go true false p q = sym (same-refl b) ∙ ap (same b) (sym (same-true a b p)) ∙ q
-    go false true p q = sym p ∙ ap (same a) (same-true b a q) ∙ same-refl a
-    go false false p q = refl
 
 -- ---- the requester that an address finds
 

@@ -1,7 +1,7 @@
 -- Laws of addresses.
 -- Assumes nothing.
 use Prim.Native.Nat.{ℕ, _+_, _≤_, _<_}
-use mathlib.Core.Path.{_≡_, refl}
+use mathlib.Core.Path.{_≡_, refl, sym, ap, _∙_}
 use mathlib.Core.Bool.{Bool, true, false, _&&_}
 use mathlib.Core.List.{List, [], _∷_}
 use native.Mathlib.Numerals.{add-one}
@@ -29,6 +29,15 @@ same-true (x ∷ a) (y ∷ b) e = go (eqb x y) refl (same-true a b) e
     go : (t : Bool) → eqb x y ≡ t → (same a b ≡ true → a ≡ b) → (t && same a b) ≡ true → _≡_ {A = List ℕ} (x ∷ a) (y ∷ b)
     go true p r q = rw (eqb-true x y p, r q)
     go false p r q = cc
+
+pub same-sym : (a b : List ℕ) → same a b ≡ same b a
+same-sym a b = go (same a b) (same b a) refl refl
+  where
+    go : (s t : Bool) → same a b ≡ s → same b a ≡ t → s ≡ t
+    go true true p q = refl
+    go true false p q = sym (same-refl b) ∙ ap (same b) (sym (same-true a b p)) ∙ q
+    go false true p q = sym p ∙ ap (same a) (same-true b a q) ∙ same-refl a
+    go false false p q = refl
 
 -- two lists from a position on: equal there, not equal there, and at the end
 module _ (xs ys : List ℕ) (i : ℕ) (hx : i < length xs) (hy : i < length ys) where

@@ -1,11 +1,11 @@
 -- Laws of report elements: their lengths, and their parts.
 -- Assumes nothing.
-use Prim.Native.Nat.{ℕ, zero, suc, _+_, _≤_, min}
-use mathlib.Core.Path.{_≡_, refl, sym, ap, _∙_}
-use mathlib.Core.List.{List, [], _∷_, _++_, append-nil}
-use native.Mathlib.Nat.{zero-add, zero-min, min-zero, suc-min-suc}
+use Prim.Native.Nat.{ℕ, suc, _+_, _≤_}
+use mathlib.Core.Path.{_≡_, refl, sym, _∙_}
+use mathlib.Core.List.{List, [], _++_, append-nil}
+use native.Mathlib.Nat.{zero-add}
 use native.Mathlib.Omega.{arith}
-use lib.ListN.{length, take, length-append}
+use lib.ListN.{length, length-append}
 use Rattle.laws.specs.Buffers.{wrote, putFront, putAt}
 use Rattle.laws.proofs.Buffers.{Putting, putting-start, putting-at, putting-done, putting-end, put-front-fits}
 use Rattle.octets.specs.declared.numbers.Kind.{Kind}
@@ -23,11 +23,6 @@ put-at-front o s = rw (zero-add (length o))
 pub put-whole : {whole s y : List ℕ} {n : ℕ} → Putting whole s y n [] → wrote n y ≡ putFront whole s
 put-whole {whole} {s} {y} {n} p =
     rw (putting-end p refl, putting-done p refl) (sym (put-front-fits whole s (p .fits)))
-
-pub take-clamped : (k : ℕ) (l : List ℕ) → take (min k (length l)) l ≡ take k l
-take-clamped zero l = rw (zero-min (length l))
-take-clamped (suc k) [] = rw (min-zero (suc k))
-take-clamped (suc k) (x ∷ xs) = rw (suc-min-suc k (length xs)) (ap (λ (r : List ℕ). x ∷ r) (take-clamped k xs))
 
 -- writers of parts, one behind the other, write the whole
 module _ (whole s : List ℕ) (fits : length whole ≤ length s) (a r : List ℕ) (split : whole ≡ a ++ r) (n : ℕ) (y : List ℕ) (put : wrote n y ≡ putAt a 0 s) where

@@ -7,7 +7,7 @@ use octets::numbers;
 use octets::put;
 ghost use mathlib.Core.Path.{_≡_};
 ghost use mathlib.Core.List.{[]};
-ghost use Prim.Native.Nat.{_≤_, min};
+ghost use Prim.Native.Nat.{_≤_};
 ghost use lib.ListN.{length, take};
 ghost use Rattle.laws.specs.Buffers.{wrote, putFront};
 ghost use Rattle.reports.specs.Reports.{reportHead, reportElement, eventElement};

@@ -22,7 +22,7 @@ use Rattle.octets.proofs.TextLaws.{decimal-length}
 use Rattle.requests.specs.declared.Element.{Element}
 use Rattle.requests.specs.declared.Request.{Request}
 use Rattle.requests.specs.Elements.{pastElements}
-use Rattle.requests.proofs.Laws.{pieces-snoc}
+use Rattle.laws.proofs.Pieces.{pieces-snoc}
 use Rattle.request_listing.specs.Listing.{frameWord, dialogWord, elementsWord, elementWord, tokenWord, typeWord, limitWord, timeoutWord, subsWord, refusedWord, atWord, newline, field, frameLine, limitField, elementLine, refusedLine, elementLines, listing, listed, Within}
 
 -- ---- general: writers that write behind the first `at` octets, one after the other

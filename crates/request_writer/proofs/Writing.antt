@@ -23,7 +23,8 @@ use Rattle.subelements.specs.declared.Condition.{Condition}
 use Rattle.subelements.specs.Subelements.{lengthOf}
 use Rattle.requests.specs.declared.Element.{Element}
 use Rattle.requests.specs.Elements.{pastElements, badToken}
-use Rattle.requests.proofs.Laws.{take-next, pieces-snoc}
+use Rattle.laws.proofs.Arrays.{take-next}
+use Rattle.laws.proofs.Pieces.{pieces-snoc}
 use Rattle.request_writer.specs.declared.Written.{Written}
 use Rattle.request_writer.specs.Frames.{conditionOctets, filterOctets, elementBody, elementOctets, elementsOctets, frameOctets}
 use Rattle.request_writer.specs.Writer.{tokenRefusal, refusedWritten, writtenLength, elementsAnswer, frameAnswer, writeAnswer, writeOctets, outcome, writeRequest}

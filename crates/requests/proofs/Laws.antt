@@ -1,17 +1,13 @@
 -- Laws of the walk over elements. A step that is not refused moves on, not past the end, and keeps to eight elements.
 -- Assumes nothing.
-use Prim.Native.Nat.{ℕ, zero, suc, _+_, _-_, _≤_, _<_}
-use mathlib.Core.Path.{_≡_, refl, sym, ap, _∙_}
-use mathlib.Core.Bool.{Bool, true, false, _&&_}
-use mathlib.Core.List.{List, [], _∷_, _++_, append-assoc, append-nil}
-use lib.ListN.{length, getD, take, drop, length-take, drop-of-length-le}
-use lib.Seq.{drop-cons, getD-take}
+use Prim.Native.Nat.{ℕ, _+_, _-_, _≤_, _<_}
+use mathlib.Core.Path.{_≡_}
+use mathlib.Core.Bool.{true, false}
+use mathlib.Core.List.{List}
+use lib.ListN.{length, getD, take, drop, drop-of-length-le}
 use borrow.Author.Tests.{eq-eqb, ne-eqb, eqb-true, eqb-false, leb-false, not-true}
-use native.Mathlib.Numerals.{add-one}
 use native.Mathlib.Omega.{arith}
 use Rattle.laws.specs.Choice.{if_then_else_}
-use Rattle.laws.specs.Walk.{repeatWhile}
-use Rattle.laws.specs.Buffers.{pieces}
 use Rattle.laws.proofs.Choice.{either}
 use Rattle.octets.specs.declared.numbers.Kind.{Kind}
 use Rattle.octets.specs.declared.numbers.Kind.the-variants.{Event, Diagnostic}
@@ -22,33 +18,9 @@ use Rattle.octets.specs.Refusals.{noRefusal}
 use Rattle.subelements.specs.Subelements.{walked, refusedWalk, past, wholeStep, step, walk}
 use Rattle.requests.specs.declared.Element.{Element}
 use Rattle.requests.specs.declared.Elements.{Elements}
+use Rattle.laws.proofs.Walk.{keeps-while, and-first}
+use Rattle.laws.proofs.Arrays.{take-next}
 use Rattle.requests.specs.Elements.{pastElements, subelementsOf, hasToken, refusedElements, withElement, ownStep, elementStep}
-
--- ---- general
-
--- what every step that is taken keeps, the walk keeps
-pub keeps-while : {A : Type 0} (P : A → Type 0) (more : A → Bool) (step : A → A) → ((w : A) → more w ≡ true → P w → P (step w)) → (k : ℕ) (w : A) → P w → P (repeatWhile k more step w)
-unfolding repeatWhile
-keeps-while P more step f zero w p = p
-keeps-while P more step f (suc k) w p = at-test (more w) refl (λ m. keeps-while P more step f k (step w) (f w m p))
-  where
-    at-test : (b : Bool) → more w ≡ b → (more w ≡ true → P (repeatWhile k more step (step w))) → P (elim b [ true ↦ repeatWhile k more step (step w) | false ↦ w ])
-    at-test true m x = x m
-    at-test false m x = p
-
-pub and-first : (a b : Bool) → (a && b) ≡ true → a ≡ true
-and-first true b e = refl
-and-first false b e = e
-
--- what is left of the first n elements from i on, is the i-th and those behind it
-pub take-next : {A : Type 0} (xs : List A) (d : A) (n i : ℕ) → i < n → i < length xs → drop i (take n xs) ≡ getD xs i d ∷ drop (i + 1) (take n xs)
-take-next xs d n i h k = rw add-one (drop-cons (take n xs) i d (omega (arith, length-take n xs)) ∙ rw (getD-take n xs i d h))
-
--- the octets of one piece more
-pub pieces-snoc : {P : Type 0} (f : P → List ℕ) (i : ℕ) (ps : List P) (p : P) → pieces (λ (k : ℕ) (x : P). f x) i (ps ++ (p ∷ [])) ≡ pieces (λ (k : ℕ) (x : P). f x) i ps ++ f p
-unfolding pieces
-pieces-snoc f i [] p = append-nil (f p)
-pieces-snoc f i (x ∷ ps) p = ap (λ (l : List ℕ). f x ++ l) (pieces-snoc f (suc i) ps p) ∙ sym (append-assoc (f x) _ (f p))
 
 -- ---- the number of subelements: an element of at most 255 octets has fewer than 256
 

@@ -13,7 +13,7 @@ use native.Mathlib.Omega.{arith}
 use borrow.Author.Tests.{lt-ltb}
 use Rattle.laws.specs.Choice.{if_then_else_}
 use Rattle.model.specs.declared.Diagnostic.{Diagnostic}
-use Rattle.slots.proofs.TestLaws.{some-here, some-later, some-none}
+use Rattle.laws.proofs.Tests.{some-here, some-later, some-none}
 use Rattle.model.specs.Diagnostics.{diagnosticTreatment, isCancel, holdsCancel, isLate, onTime, unlessOver}
 
 -- a request by the number of its elements

@@ -7,7 +7,7 @@ use native.Mathlib.Omega.{arith}
 use lib.ListN.{length, take, length-set}
 use Rattle.laws.proofs.Arrays.{length-mapped}
 use Rattle.model.specs.Diagnostics.{diagnosticOf, diagnosticsOf}
-use Rattle.slots.proofs.PartLaws.{fill-mapped, mapped-within}
+use Rattle.laws.proofs.Arrays.{fill-mapped, mapped-within}
 use Rattle.requests.specs.Elements.{pastElements}
 use borrow.Author.Needs.{needs}
 use Rattle.slots.proofs.diagnostics.diagnostics_of.Statement.{statement}

@@ -7,7 +7,7 @@ use lib.ListN.{length, getD, take, drop}
 use lib.Seq.{getD-take}
 use Rattle.laws.proofs.Arrays.{length-mapped}
 use Rattle.model.specs.Diagnostics.{isCancel, holdsCancel}
-use Rattle.slots.proofs.PartLaws.{take-within, length-within}
+use Rattle.laws.proofs.Arrays.{take-within, length-within}
 use Rattle.slots.proofs.DiagnosticLaws.{pastDiagnostics, cancel-here, cancel-later, cancel-none}
 use borrow.Author.Needs.{needs}
 use Rattle.slots.proofs.diagnostics.holds_cancel.Statement.{statement}

@@ -10,7 +10,7 @@ use lib.Seq.{getD-take}
 use Rattle.laws.proofs.Arrays.{length-mapped}
 use Rattle.slots.specs.Slots.{listed}
 use Rattle.model.specs.Diagnostics.{onTime}
-use Rattle.slots.proofs.PartLaws.{take-within, length-within}
+use Rattle.laws.proofs.Arrays.{take-within, length-within}
 use Rattle.slots.proofs.DiagnosticLaws.{on-time-next, on-time-end, pastDiagnostics}
 use borrow.Author.Needs.{needs}
 use Rattle.slots.proofs.diagnostics.kept.Statement.{statement}

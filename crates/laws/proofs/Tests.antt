@@ -8,8 +8,6 @@ use lib.ListN.{length, getD, drop, drop-of-length-le}
 use lib.Seq.{drop-cons}
 use native.Mathlib.Numerals.{add-one}
 
--- ---- general
-
 -- `some-of` tests a list by `one`, which may look at the elements behind the one that it tests
 module _ {A : Type 0} (some-of : List A → Bool) (one : A → List A → Bool) (nil : some-of [] ≡ false)
     (cons : (x : A) (xs : List A) → some-of (x ∷ xs) ≡ (one x xs || some-of xs)) (l : List A) (i : ℕ) where
