@@ -32,7 +32,7 @@ use Rattle.events.specs.declared.Transition.{Transition}
 use Rattle.events.specs.Log.{bodyOf, entryOf}
 use Rattle.reports.specs.Reports.{reportElement}
 use Rattle.report_reader.specs.declared.Event.{Event as Fields}
-use Rattle.report_reader.specs.Reader.{part, eventAt, plainElement, loggedElement, foundStep, plainStep, loggedStep, bareStep, transitionStep, eventStep, walkedStep, diagnosticStep, ownStep, stepAt, judgedReport, readReport, reading, gathered, unread, readStep, readElements}
+use Rattle.report_reader.specs.Reader.{part, eventAt, plainElement, loggedElement, foundStep, plainStep, loggedStep, bareStep, transitionStep, eventStep, walkedStep, diagnosticStep, ownStep, stepAt, reportOf, judgedReport, readReport, reading, gathered, unread, readStep, readElements}
 use Rattle.report_reader.specs.Sent.{Sent, sentOctets, sentFrame, EventSent, plain, logged, kept, DiagnosticSent, listed, Piece, subelements, fieldsOf, transitionEvent}
 use Rattle.report_reader.proofs.Laws.{agrees}
 
@@ -242,7 +242,7 @@ module _ (kind : Kind) (dialog : ℕ) (Good : Sent → Type 0)
   -- the frame is judged to have as many elements as were sent
   report-back : (destination : List ℕ) → isGroup destination ≡ false → length frame ≤ longestFrame
       → readReport destination frame ≡ record { refusal = noRefusal; kind = kind; dialog = dialog; count = length is }
-  unfolding frame sentFrame judgedReport
+  unfolding frame sentFrame reportOf if_then_else_
   report-back destination single fits =
       header-back kind dialog (pieces (λ _ i. sentOctets kind i) 0 is) destination single (omega arith)
       ∙ rw (agrees frame kind, elements-back, length-map is fieldsOf)

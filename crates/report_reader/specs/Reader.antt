@@ -150,23 +150,29 @@ judgeStep s kind w = advanced w (stepAt s kind (w .at))
 unfoldable pub judge : List ℕ → Kind → Walk
 judge s kind = repeatWhile (length s) (more (length s)) (judgeStep s kind) (atWalk noRefusal 3 0)
 
-abbrev pub refusedReport : ℕ → Report
-refusedReport number = record { refusal = refused number 0; kind = EventKind; dialog = 0; count = 0 }
+-- a refused frame: everything but the refusal is fixed
+abbrev pub refusedReport : ℕ → ℕ → Report
+refusedReport number place = record { refusal = refused number place; kind = EventKind; dialog = 0; count = 0 }
 
-unfoldable pub judgedReport : List ℕ → Kind → Report
-judgedReport s kind =
-    record { refusal = judge s kind .refusal; kind = kind; dialog = getD s 2 0; count = judge s kind .count }
+-- the walk's refusal, or the report
+unfoldable pub reportOf : Kind → ℕ → Walk → Report
+reportOf kind dialog w =
+    if not (eqb (w .refusal .number) 0) then refusedReport (w .refusal .number) (w .refusal .place)
+    else record { refusal = noRefusal; kind = kind; dialog = dialog; count = w .count }
+
+abbrev pub judgedReport : List ℕ → Kind → Report
+judgedReport s kind = reportOf kind (getD s 2 0) (judge s kind)
 
 -- "Group destination" (11); "Frame under 3 or over 2,304 octets" (1); "Category not 10; action not .. 1 or 3 (reports)" (2)
 unfoldable pub readReport : List ℕ → List ℕ → Report
 readReport destination s =
-    if isGroup destination then refusedReport groupDestination
-    else if ltb (length s) shortestFrame then refusedReport frameLength
-    else if ltb longestFrame (length s) then refusedReport frameLength
-    else if not (eqb (getD s 0 0) category) then refusedReport frameHeader
+    if isGroup destination then refusedReport groupDestination 0
+    else if ltb (length s) shortestFrame then refusedReport frameLength 0
+    else if ltb longestFrame (length s) then refusedReport frameLength 0
+    else if not (eqb (getD s 0 0) category) then refusedReport frameHeader 0
     else if eqb (getD s 1 0) (reportAction EventKind) then judgedReport s EventKind
     else if eqb (getD s 1 0) (reportAction Diagnostic) then judgedReport s Diagnostic
-    else refusedReport frameHeader
+    else refusedReport frameHeader 0
 
 -- ---- the elements that the cursor hands out, from the front to the end or to the first refusal
 

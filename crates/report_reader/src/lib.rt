@@ -17,7 +17,7 @@ use units::TimeUnits;
 ghost use mathlib.Core.Path.{_≡_};
 ghost use Prim.Native.Nat.{_+_, _^_, _≤_, _<_};
 ghost use lib.ListN.{length};
-ghost use Rattle.report_reader.specs.Reader.{part, noEvent, eventAt, refusedStep, skippedStep, plainStep, loggedStep, bareStep, transitionStep, eventStep, walkedStep, diagnosticStep, ownStep, stepAt, atWalk, advanced, refusedReport, judgedReport, readReport};
+ghost use Rattle.report_reader.specs.Reader.{part, noEvent, eventAt, refusedStep, skippedStep, plainStep, loggedStep, bareStep, transitionStep, eventStep, walkedStep, diagnosticStep, ownStep, stepAt, atWalk, advanced, refusedReport, reportOf, judgedReport, readReport};
 ghost use Rattle.report_reader.specs.Reader.{judge as Reader·judge};
 
 // A reported transition; the signals are source RCPI, source RSNI, target RCPI and target RSNI.
@@ -340,14 +340,30 @@ fn judge(s: &[u8], kind: Kind) -> Walk
     w
 }
 
-fn refused_report(number: u8) -> Report
-    ensures { λ r. ⌜ r ≡ refusedReport number ⌝ }
+fn refused_report(number: u8, place: usize) -> Report
+    ensures { λ r. ⌜ r ≡ refusedReport number place ⌝ }
 {
     Report {
-        refusal: Refusal::new(number, 0),
+        refusal: Refusal::new(number, place),
         kind: Kind::Event,
         dialog: 0,
         count: 0,
+    }
+}
+
+// The walk's refusal, or the report.
+fn report_of(kind: Kind, dialog: u8, w: Walk) -> Report
+    ensures { λ r. ⌜ r ≡ reportOf kind dialog w ⌝ }
+{
+    let refusal = w.refusal;
+    if refusal.number != 0 {
+        return refused_report(refusal.number, refusal.place);
+    }
+    Report {
+        refusal: Refusal::none(),
+        kind,
+        dialog,
+        count: w.count,
     }
 }
 
@@ -355,14 +371,7 @@ fn refused_report(number: u8) -> Report
 fn judged(s: &[u8], kind: Kind) -> Report
     ensures { λ r. ⌜ r ≡ judgedReport (now (s .entry)) kind ⌝ }
 {
-    let w = judge(s, kind);
-    let refusal = w.refusal;
-    Report {
-        refusal,
-        kind,
-        dialog: octet(s, 2),
-        count: w.count,
-    }
+    report_of(kind, octet(s, 2), judge(s, kind))
 }
 
 // Judges a whole frame, given its destination.
@@ -370,16 +379,16 @@ pub fn read_report(destination: [u8; 6], s: &[u8]) -> Report
     ensures { λ r. ⌜ r ≡ readReport destination (now (s .entry)) ⌝ }
 {
     if is_group(destination) {
-        return refused_report(causes::GROUP_DESTINATION);
+        return refused_report(causes::GROUP_DESTINATION, 0);
     }
     if s.len() < numbers::SHORTEST_FRAME {
-        return refused_report(causes::FRAME_LENGTH);
+        return refused_report(causes::FRAME_LENGTH, 0);
     }
     if numbers::LONGEST_FRAME < s.len() {
-        return refused_report(causes::FRAME_LENGTH);
+        return refused_report(causes::FRAME_LENGTH, 0);
     }
     if octet(s, 0) != numbers::CATEGORY {
-        return refused_report(causes::FRAME_HEADER);
+        return refused_report(causes::FRAME_HEADER, 0);
     }
     let action = octet(s, 1);
     if action == Kind::Event.report_action() {
@@ -388,5 +397,5 @@ pub fn read_report(destination: [u8; 6], s: &[u8]) -> Report
     if action == Kind::Diagnostic.report_action() {
         return judged(s, Kind::Diagnostic);
     }
-    refused_report(causes::FRAME_HEADER)
+    refused_report(causes::FRAME_HEADER, 0)
 }
