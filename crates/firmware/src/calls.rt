@@ -19,7 +19,10 @@ ghost use Rattle.firmware.specs.Numbers.{kindOf, numbered, replyTo, view
 pub fn kind_of(n: u8) -> Kind
     ensures { λ r. ⌜ r ≡ kindOf n ⌝ }
 {
-    if n == 0 { Kind::Event } else { Kind::Diagnostic }
+    match n {
+        0 => Kind::Event,
+        1..=255 => Kind::Diagnostic,
+    }
 }
 
 // The numbers of an answer.
