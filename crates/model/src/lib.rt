@@ -2,6 +2,7 @@
 // (demand 3), in proofs/. The code of the station meets it; here are the types that both share.
 
 // A diagnostic element that is not answered yet: its token, its type (ty), its timeout in seconds.
+#[repr(C)]
 pub struct Diagnostic {
     pub token: u8,
     pub ty: u8,

@@ -21,6 +21,7 @@ ghost use Rattle.report_reader.specs.Reader.{part, noEvent, eventAt, ref
 ghost use Rattle.report_reader.specs.Reader.{judge as Reader·judge};
 
 // A reported transition; the signals are source RCPI, source RSNI, target RCPI and target RSNI.
+#[repr(C)]
 pub struct Event {
     pub time: [u8; 9],
     pub source: [u8; 6],
@@ -33,6 +34,7 @@ pub struct Event {
 
 // The fields of a report element: how many octets stand behind its status, how many subelements
 // they are (in a diagnostic), and whether they are a transition (else it is all zeros).
+#[repr(C)]
 pub struct Element {
     pub token: u8,
     pub ty: u8,

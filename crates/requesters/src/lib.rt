@@ -20,6 +20,7 @@ use units::Milliseconds;
 // An event request, where outstanding. Its elements left are those from first to count; the front
 // one gave so many events, and the search for its next one goes on at start. The log's first mark
 // places were logged before acceptance. Places outside first to count are free.
+#[repr(C)]
 pub struct EventRequest {
     pub outstanding: bool,
     pub dialog: u8,
@@ -33,6 +34,7 @@ pub struct EventRequest {
 
 // A diagnostic request, where outstanding, and the reading of its acceptance. Its elements left are
 // those from first to count; the other places are free.
+#[repr(C)]
 pub struct DiagnosticRequest {
     pub outstanding: bool,
     pub dialog: u8,
@@ -43,6 +45,7 @@ pub struct DiagnosticRequest {
 }
 
 // A requester, with at most one request of each kind.
+#[repr(C)]
 pub struct Requester {
     pub address: [u8; 6],
     pub events: EventRequest,

@@ -26,6 +26,7 @@ pub const MOST_ELEMENTS: usize = 8;
 // One request element: its token and type (ty), the response limit of an event, the timeout in
 // seconds of a diagnostic, the number of subelements walked, and the conditions of event type 0.
 // What the kind of the frame does not have is 0.
+#[repr(C)]
 pub struct Element {
     pub token: u8,
     pub ty: u8,

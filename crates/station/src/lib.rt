@@ -10,6 +10,7 @@ use requesters::Requester;
 
 // A station: its identity's first length octets (0: it has none), its log, and its first count
 // requesters; the other places are free.
+#[repr(C)]
 pub struct Station {
     pub identity: [u8; 252],
     pub length: usize,

@@ -12,6 +12,7 @@ ghost use Rattle.subelements.specs.Subelements.{lengthOf, bodyOctet, bod
 
 // The subelement of one ID of the table: absent (its octets 0), or present with its body (0 past
 // its length). In a request element of event type 0 it is a condition.
+#[repr(C)]
 pub struct Condition {
     pub present: bool,
     pub octets: [u8; 6],

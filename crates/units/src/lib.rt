@@ -5,9 +5,11 @@ ghost use Prim.Native.Nat.{_*_};
 ghost use Rattle.units.specs.Time.{age, exceeds, tusOf, atLeast};
 
 // Milliseconds of the 32-bit counter (document 01: a reading, a stamp or an age).
+#[repr(C)]
 pub struct Milliseconds(pub u32);
 
 // Time units of 1,024 microseconds (document 01: TUs).
+#[repr(C)]
 pub struct TimeUnits(pub u16);
 
 impl Milliseconds {

@@ -1,0 +1,111 @@
+//! The proved code, as include/dultxibe.h declares it.
+
+use std::mem::{offset_of, size_of};
+
+#[derive(Clone, Copy, PartialEq, Eq, Debug)]
+#[repr(C)]
+pub struct Reply {
+    pub code: u8,
+    pub number: u8,
+    pub place: usize,
+    pub length: usize,
+}
+
+#[derive(Clone, Copy)]
+#[repr(C)]
+pub struct Station {
+    octets: [u64; 575],
+}
+
+#[derive(Clone, Copy)]
+#[repr(C)]
+pub struct Outcome {
+    pub station: Station,
+    pub reply: Reply,
+}
+
+#[derive(Clone, Copy)]
+#[repr(C)]
+pub struct Transition {
+    pub time: [u8; 9],
+    pub source: [u8; 6],
+    pub target: [u8; 6],
+    pub reason: u8,
+    pub result: u16,
+    pub signals: [u8; 4],
+    pub departure: u32,
+}
+
+#[derive(Clone, Copy, Debug)]
+#[repr(C)]
+pub struct ReportFrame {
+    pub number: u8,
+    pub kind: u8,
+    pub dialog: u8,
+    pub place: usize,
+    pub count: usize,
+}
+
+#[derive(Clone, Copy)]
+#[repr(C)]
+pub struct Event {
+    pub time: [u8; 9],
+    pub source: [u8; 6],
+    pub target: [u8; 6],
+    pub took: u16,
+    pub reason: u8,
+    pub result: u16,
+    pub signals: [u8; 4],
+}
+
+#[derive(Clone, Copy)]
+#[repr(C)]
+pub struct Element {
+    pub token: u8,
+    pub ty: u8,
+    pub status: u8,
+    pub length: usize,
+    pub subs: usize,
+    pub logged: bool,
+    pub event: Event,
+}
+
+#[derive(Clone, Copy)]
+#[repr(C)]
+pub struct Step {
+    pub number: u8,
+    pub found: bool,
+    pub place: usize,
+    pub rest: usize,
+    pub next: usize,
+    pub element: Element,
+}
+
+const _: () = assert!(size_of::<Reply>() == 24 && size_of::<Station>() == 4600);
+const _: () = assert!(size_of::<Outcome>() == 4624 && size_of::<Transition>() == 32);
+const _: () = assert!(size_of::<ReportFrame>() == 24 && size_of::<Step>() == 96);
+const _: () = assert!(offset_of!(Step, element) == 32 && offset_of!(Element, event) == 26);
+
+extern "C" {
+    pub fn dultxibe_setup(identity: *const u8, length: usize, consoles: *const [u8; 6], count: usize) -> Outcome;
+    pub fn dultxibe_tick(station: Station, reading: u32) -> Outcome;
+    pub fn dultxibe_log(station: Station, reading: u32, transition: Transition) -> Outcome;
+    pub fn dultxibe_frame(
+        station: Station,
+        reading: u32,
+        destination: *const [u8; 6],
+        source: *const [u8; 6],
+        frame: *const u8,
+        length: usize,
+    ) -> Outcome;
+    pub fn dultxibe_report(
+        station: Station,
+        reading: u32,
+        console: *const [u8; 6],
+        kind: u8,
+        buffer: *mut u8,
+        length: usize,
+    ) -> Outcome;
+    pub fn dultxibe_read_report(destination: *const [u8; 6], frame: *const u8, length: usize) -> ReportFrame;
+    pub fn dultxibe_next_element(kind: u8, position: usize, frame: *const u8, length: usize) -> Step;
+}

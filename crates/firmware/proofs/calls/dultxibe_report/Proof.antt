@@ -1,0 +1,33 @@
+-- `firmware::calls::dultxibe_report` meets its contract.
+-- Assumes nothing.
+use mathlib.Core.Path.{ap, _∙_}
+use Rattle.firmware.specs.Numbers.{numbered}
+use Rattle.octets.specs.declared.numbers.Kind.{Kind}
+use Rattle.model.specs.Model.{report}
+use Rattle.model.specs.Stations.{step}
+use Rattle.station.specs.Views.{view}
+use borrow.Author.Needs.{needs}
+use Rattle.firmware.proofs.calls.dultxibe_report.Statement.{statement}
+use Rattle.firmware.proofs.calls.dultxibe_report.Tie as tie
+
+kind-of-requires : tie.Need-kind-of-requires
+kind-of-requires c κs = search needs
+
+report-requires : tie.Need-report-requires
+report-requires c κs = search needs
+
+outcome-of-requires : tie.Need-outcome-of-requires
+outcome-of-requires c κs = search needs
+
+same-length : tie.Need-same-length
+same-length c = search needs
+
+returns : tie.Need-returns
+returns c =
+    let a = c .before .before .before .before .before .before .before .before .args in
+    c .outcome-of .ensures _
+    ∙ ap numbered (c .before .before .before .report .ensures ∙ ap (λ (k : Kind). step (view (a .g)) (report (a .reading) (a .requester .now) k (a .buf .now))) (c .before .before .before .before .before .kind-of .ensures))
+
+pub dultxibe-report-spec : {M : Type 1} → statement M
+dultxibe-report-spec =
+    tie.close (tie.spec kind-of-requires report-requires outcome-of-requires same-length returns)

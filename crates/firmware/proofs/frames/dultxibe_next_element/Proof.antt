@@ -1,0 +1,23 @@
+-- `firmware::frames::dultxibe_next_element` meets its contract.
+-- Assumes nothing.
+use mathlib.Core.Path.{ap, _∙_}
+use Rattle.octets.specs.declared.numbers.Kind.{Kind}
+use Rattle.report_reader.specs.Reader.{stepAt}
+use Rattle.firmware.specs.Numbers.{numberedStep}
+use borrow.Author.Needs.{needs}
+use Rattle.firmware.proofs.frames.dultxibe_next_element.Statement.{statement}
+use Rattle.firmware.proofs.frames.dultxibe_next_element.Tie as tie
+
+kind-of-requires : tie.Need-kind-of-requires
+kind-of-requires c κs = search needs
+
+next-requires : tie.Need-next-requires
+next-requires c κs = search needs
+
+returns : tie.Need-returns
+returns c =
+    let a = c .before .before .before .before .args in
+    ap numberedStep (c .before .next .ensures ∙ ap (λ (k : Kind). stepAt (a .s .now) k (a .at)) (c .before .before .kind-of .ensures))
+
+pub dultxibe-next-element-spec : {M : Type 1} → statement M
+dultxibe-next-element-spec = tie.close (tie.spec kind-of-requires next-requires returns)

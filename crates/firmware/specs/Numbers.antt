@@ -1,0 +1,90 @@
+-- What crosses into C: this paper's numbers and values for each kind and each answer.
+-- Assumes nothing.
+use Prim.Native.Nat.{ℕ}
+use mathlib.Core.List.{List}
+use mathlib.Core.Bool.{not}
+use lib.Dec.{eqb}
+use Rattle.laws.specs.Choice.{if_then_else_}
+use Rattle.octets.specs.declared.numbers.Kind.{Kind}
+use Rattle.octets.specs.declared.numbers.Kind.the-variants.{Event, Diagnostic}
+use Rattle.model.specs.Model.{Station, Answer, accepted, nothing, written, refused, Result}
+use Rattle.station.specs.Views.{view}
+use Rattle.request_writer.specs.declared.Written.{Written}
+use Rattle.request_writer.specs.Writer.{Outcome as Writer·Outcome}
+use Rattle.report_reader.specs.declared.Report.{Report as Reader·Report}
+use Rattle.report_reader.specs.declared.Step.{Step as Reader·Step}
+use Rattle.firmware.specs.declared.Reply.{Reply}
+use Rattle.firmware.specs.declared.Outcome.{Outcome}
+use Rattle.firmware.specs.declared.Report.{Report}
+use Rattle.firmware.specs.declared.Step.{Step}
+
+-- ---- kinds: 0 event, any other diagnostic
+
+abbrev pub kindOf : ℕ → Kind
+kindOf n = if eqb n 0 then Event else Diagnostic
+
+abbrev pub numberOf : Kind → ℕ
+numberOf Event = 0
+numberOf Diagnostic = 1
+
+-- ---- answers: "accepted", "nothing", length, or refusal number and place
+
+abbrev pub reply : ℕ → ℕ → ℕ → ℕ → Reply
+reply code number place length = record { code = code; number = number; place = place; length = length }
+
+unfoldable pub replyTo : Answer → Reply
+replyTo accepted = reply 0 0 0 0
+replyTo nothing = reply 1 0 0 0
+replyTo (written n) = reply 2 0 0 n
+replyTo (refused r) = reply 3 (r .number) (r .place) 0
+
+-- ---- the calls on a station: the model's station and the lent buffer, with the answer's numbers
+
+pub record Numbered : Type 0 where
+  pub station : Station
+  pub reply : Reply
+  pub buffer : List ℕ
+
+abbrev pub numbered : Result → Numbered
+numbered r = record { station = r .station; reply = replyTo (r .answer); buffer = r .buffer }
+
+abbrev pub viewed : Outcome → List ℕ → Numbered
+viewed o buffer = record { station = view (o .station); reply = o .reply; buffer = buffer }
+
+-- ---- the request writer: its answer's numbers, and the lent buffer
+
+unfoldable pub replyWritten : Written → Reply
+replyWritten w =
+    if not (eqb (w .refusal .number) 0) then reply 3 (w .refusal .number) (w .refusal .place) 0
+    else reply 2 0 0 (w .length)
+
+pub record Write : Type 0 where
+  pub reply : Reply
+  pub octets : List ℕ
+
+abbrev pub write : Reply → List ℕ → Write
+write reply octets = record { reply = reply; octets = octets }
+
+abbrev pub numberedWrite : Writer·Outcome → Write
+numberedWrite o = write (replyWritten (o .answer)) (o .octets)
+
+-- ---- the report reader
+
+abbrev pub numberedReport : Reader·Report → Report
+numberedReport r = record {
+  number = r .refusal .number;
+  kind = numberOf (r .kind);
+  dialog = r .dialog;
+  place = r .refusal .place;
+  count = r .count;
+}
+
+abbrev pub numberedStep : Reader·Step → Step
+numberedStep t = record {
+  number = t .refusal .number;
+  found = t .found;
+  place = t .refusal .place;
+  rest = t .rest;
+  next = t .next .at;
+  element = t .element;
+}

@@ -1,0 +1,137 @@
+// Setup, and the calls on a station.
+use crate::Outcome;
+use crate::Reply;
+use events::Transition;
+use octets::Kind;
+use requesters::Answer;
+use station::Station;
+use units::Milliseconds;
+ghost use mathlib.Core.Path.{_≡_};
+ghost use mathlib.Core.List.{List, []};
+ghost use Prim.Native.Nat.{ℕ};
+ghost use Rattle.requesters.specs.Views.{viewAnswer};
+ghost use Rattle.model.specs.Model.{clock, logging, frame, report, roam, change};
+ghost use Rattle.model.specs.Stations.{setup, step};
+ghost use Rattle.station.specs.Views.{view, viewOutcome};
+ghost use Rattle.firmware.specs.Numbers.{kindOf, numbered, replyTo, viewed};
+
+// The kind of a number.
+pub fn kind_of(n: u8) -> Kind
+    ensures { λ r. ⌜ r ≡ kindOf n ⌝ }
+{
+    match n {
+        0 => Kind::Event,
+        1..=255 => Kind::Diagnostic,
+    }
+}
+
+// The numbers of an answer.
+fn reply_to(answer: Answer) -> Reply
+    ensures { λ r. ⌜ r ≡ replyTo (viewAnswer answer) ⌝ }
+{
+    match answer {
+        Answer::Accepted => Reply {
+            code: 0,
+            number: 0,
+            place: 0,
+            length: 0,
+        },
+        Answer::Nothing => Reply {
+            code: 1,
+            number: 0,
+            place: 0,
+            length: 0,
+        },
+        Answer::Length(length) => Reply {
+            code: 2,
+            number: 0,
+            place: 0,
+            length,
+        },
+        Answer::Refused(refusal) => Reply {
+            code: 3,
+            number: refusal.number,
+            place: refusal.place,
+            length: 0,
+        },
+    }
+}
+
+fn outcome_of(o: station::Outcome) -> Outcome
+    ensures { λ r. ⌜ ((buffer : List ℕ) → viewed r buffer ≡ numbered (viewOutcome o buffer)) ⌝ }
+{
+    let station = o.station;
+    let answer = o.answer;
+    Outcome {
+        station,
+        reply: reply_to(answer),
+    }
+}
+
+// Names the identity and the requesters.
+#[no_mangle]
+pub extern "C" fn dultxibe_setup(identity: &[u8], list: &[[u8; 6]]) -> Outcome
+    ensures { λ r. ⌜ viewed r [] ≡ numbered (setup (now (identity .entry)) (now (list .entry))) ⌝ }
+{
+    outcome_of(Station::setup(identity, list))
+}
+
+// A bare clock reading.
+#[no_mangle]
+pub extern "C" fn dultxibe_tick(g: Station, reading: u32) -> Outcome
+    ensures { λ r. ⌜ viewed r [] ≡ numbered (step (view g) (clock reading)) ⌝ }
+{
+    outcome_of(g.tick(Milliseconds(reading)))
+}
+
+// Logs a transition, which the reading ends.
+#[no_mangle]
+pub extern "C" fn dultxibe_log(g: Station, reading: u32, t: Transition) -> Outcome
+    ensures { λ r. ⌜ viewed r [] ≡ numbered (step (view g) (logging reading t)) ⌝ }
+{
+    outcome_of(g.log_transition(Milliseconds(reading), t))
+}
+
+// A frame from a source to a destination.
+#[no_mangle]
+pub extern "C" fn dultxibe_frame(
+    g: Station,
+    reading: u32,
+    destination: &[u8; 6],
+    source: &[u8; 6],
+    o: &[u8],
+) -> Outcome
+    ensures { λ r. ⌜ viewed r [] ≡ numbered (step (view g) (frame reading (now (destination .entry)) (now (source .entry)) (now (o .entry)))) ⌝ }
+{
+    outcome_of(g.take_frame(Milliseconds(reading), *destination, *source, o))
+}
+
+// A report of a kind for a requester, into a lent buffer.
+#[no_mangle]
+pub extern "C" fn dultxibe_report(
+    g: Station,
+    reading: u32,
+    requester: &[u8; 6],
+    kind: u8,
+    buf: &mut [u8],
+) -> Outcome
+    ensures { λ r. ⌜ viewed r (now (buf .exit)) ≡ numbered (step (view g) (report reading (now (requester .entry)) (kindOf kind) (now (buf .entry)))) ⌝ }
+{
+    outcome_of(g.report(Milliseconds(reading), *requester, kind_of(kind), buf))
+}
+
+// A move inside the network.
+#[no_mangle]
+pub extern "C" fn dultxibe_roam(g: Station, reading: u32, list: &[[u8; 6]]) -> Outcome
+    ensures { λ r. ⌜ viewed r [] ≡ numbered (step (view g) (roam reading (now (list .entry)))) ⌝ }
+{
+    outcome_of(g.roam(Milliseconds(reading), list))
+}
+
+// A network change.
+#[no_mangle]
+pub extern "C" fn dultxibe_change_network(g: Station, reading: u32, list: &[[u8; 6]]) -> Outcome
+    ensures { λ r. ⌜ viewed r [] ≡ numbered (step (view g) (change reading (now (list .entry)))) ⌝ }
+{
+    outcome_of(g.change_network(Milliseconds(reading), list))
+}

@@ -1,0 +1,88 @@
+// The requester's side: the request writer and the report reader.
+use crate::Reply;
+use crate::Report;
+use crate::Request;
+use crate::Step;
+use crate::calls::kind_of;
+use octets::Kind;
+use report_reader::Cursor;
+use report_reader::read_report;
+use request_writer::Written;
+use request_writer::write_request;
+ghost use mathlib.Core.Path.{_≡_};
+ghost use Rattle.request_writer.specs.Writer.{writeRequest};
+ghost use Rattle.report_reader.specs.Reader.{stepAt, readReport};
+ghost use Rattle.firmware.specs.Numbers.{kindOf, numberOf, replyWritten, write, numberedWrite, numberedReport, numberedStep};
+
+// The number of a kind.
+fn number_of(kind: Kind) -> u8
+    ensures { λ r. ⌜ r ≡ numberOf kind ⌝ }
+{
+    match kind {
+        Kind::Event => 0,
+        Kind::Diagnostic => 1,
+    }
+}
+
+// The numbers of the writer's answer.
+fn reply_written(w: Written) -> Reply
+    ensures { λ r. ⌜ r ≡ replyWritten w ⌝ }
+{
+    if w.refusal.number != 0 {
+        return Reply {
+            code: 3,
+            number: w.refusal.number,
+            place: w.refusal.place,
+            length: 0,
+        };
+    }
+    Reply {
+        code: 2,
+        number: 0,
+        place: 0,
+        length: w.length,
+    }
+}
+
+// Writes a request frame at the front of a buffer, or nothing where it is refused.
+#[no_mangle]
+pub extern "C" fn dultxibe_write_request(q: Request, buf: &mut [u8]) -> Reply
+    ensures { λ r. ⌜ write r (now (buf .exit)) ≡ numberedWrite (writeRequest (kindOf (q .kind)) (q .dialog) (q .elements) (q .count) (now (buf .entry))) ⌝ }
+{
+    let elements = q.elements;
+    reply_written(write_request(kind_of(q.kind), q.dialog, elements, q.count, buf))
+}
+
+// Judges a whole report frame, given its destination.
+#[no_mangle]
+pub extern "C" fn dultxibe_read_report(destination: &[u8; 6], s: &[u8]) -> Report
+    ensures { λ r. ⌜ r ≡ numberedReport (readReport (now (destination .entry)) (now (s .entry))) ⌝ }
+{
+    let report = read_report(*destination, s);
+    let kind = report.kind;
+    Report {
+        number: report.refusal.number,
+        kind: number_of(kind),
+        dialog: report.dialog,
+        place: report.refusal.place,
+        count: report.count,
+    }
+}
+
+// What stands at a position of a report frame of a kind; the first element stands at 3.
+#[no_mangle]
+pub extern "C" fn dultxibe_next_element(kind: u8, at: usize, s: &[u8]) -> Step
+    ensures { λ r. ⌜ r ≡ numberedStep (stepAt (now (s .entry)) (kindOf kind) at) ⌝ }
+{
+    let cursor = Cursor { at };
+    let step = cursor.next(s, kind_of(kind));
+    let element = step.element;
+    Step {
+        number: step.refusal.number,
+        found: step.found,
+        place: step.refusal.place,
+        rest: step.rest,
+        next: step.next.at,
+        element,
+    }
+}
