@@ -14,11 +14,11 @@ use requests::bad_token;
 use requests::lacks_element;
 use requests::read_request;
 use subelements::Condition;
+use subelements::length_of;
 ghost use mathlib.Core.Path.{_≡_};
 ghost use Prim.Native.Nat.{_≤_, _<_};
 ghost use lib.ListN.{length, take};
 ghost use Rattle.laws.specs.Buffers.{onto};
-ghost use Rattle.subelements.specs.Subelements.{lengthOf};
 ghost use Rattle.request_writer.specs.Frames.{conditionOctets, filterOctets, elementOctets, elementsOctets};
 ghost use Rattle.request_writer.specs.Writer.{refusedWritten, writtenLength, elementsAnswer, frameAnswer, outcome, writeRequest};
 ghost use Rattle.request_writer.specs.ReadBack.{echoed};
@@ -27,16 +27,6 @@ ghost use Rattle.request_writer.specs.ReadBack.{echoed};
 pub struct Written {
     pub refusal: Refusal,
     pub length: usize,
-}
-
-// The body lengths of the transition subelements 0 to 4, as subelements has them.
-const LENGTHS: [usize; 5] = [6, 6, 2, 1, 3];
-
-fn length_of(id: usize) -> usize
-    requires { ⌜ id < 5 ⌝ }
-    ensures { λ r. ⌜ r ≡ lengthOf id ⌝ }
-{
-    LENGTHS[id]
 }
 
 // A condition at the front of a buffer; its length.

@@ -30,11 +30,11 @@ pub struct Subelements {
 // The body lengths of the transition subelements 0 to 4.
 const LENGTHS: [usize; 5] = [6, 6, 2, 1, 3];
 
-fn length_of(id: usize) -> usize
-    requires { ⌜ id < 5 ⌝ }
+// The body length of an ID of the table; 0 past it.
+pub fn length_of(id: usize) -> usize
     ensures { λ r. ⌜ r ≡ lengthOf id ⌝ }
 {
-    LENGTHS[id]
+    if id < 5 { LENGTHS[id] } else { 0 }
 }
 
 // Octet k of a body of n octets, 0 past its end.
