@@ -43,14 +43,13 @@ pub fn identity(random: &mut Random, wrong: usize) -> Vec<u8> {
     parts.concat()
 }
 
-/// A list, and whether it was made good: one to four of five addresses; else empty, too long, repeated,
-/// or with a group address.
-pub fn console_list(random: &mut Random) -> (Vec<Address>, bool) {
+/// A list: one to four of five addresses; at times empty, too long, repeated, or with a group address.
+pub fn console_list(random: &mut Random) -> Vec<Address> {
     let first = random.between(0, 4);
     let address = |number: usize| [2, 0, 0, 0, 0, 1 + ((first + number) % 5) as u8];
     let mut list: Vec<Address> = (0..random.between(1, 4)).map(address).collect();
     if !random.percent(10) {
-        return (list, true);
+        return list;
     }
     match random.between(0, 3) {
         0 => list.clear(),
@@ -61,5 +60,5 @@ pub fn console_list(random: &mut Random) -> (Vec<Address>, bool) {
             list[at][0] = 3;
         }
     }
-    (list, false)
+    list
 }

@@ -23,11 +23,38 @@ pub fn request_frame(random: &mut Random, kind: Kind, dialog: u8, taste: Taste) 
     if random.percent(taste.faulty / 4) {
         return noise(random, [10, kind.request_action(), dialog]);
     }
-    let frame = valid_request(random, kind, dialog, taste);
-    if random.percent(taste.faulty) {
+    let mut frame = valid_request(random, kind, dialog, taste);
+    if !random.percent(taste.faulty) {
+        return frame;
+    }
+    if random.percent(60) {
         return damage(random, &frame);
     }
+    for _ in 0..random.pick(&[1, 1, 2]) {
+        let token = frame.get(5).map_or(0, |first| *first);
+        frame.extend(wrong_element(random, kind, token));
+    }
     frame
+}
+
+/// An element with one or two faults, so that the order of the causes shows: too short, a token that
+/// stands already (`token`) or 0, a subelement past the end, of wrong length, or repeated.
+fn wrong_element(random: &mut Random, kind: Kind, token: u8) -> Vec<u8> {
+    let own_token = random.pick(&[token, 0, 250, 251, 252, 253, 254, 255]);
+    let mut body = vec![own_token, random.pick(&[0, 0, 0, 1, 255])];
+    body.extend(random.octets(kind.shortest_request() - 2));
+    for _ in 0..random.pick(&[0, 1, 2, 3]) {
+        let id = random.pick(&[0, 1, 2, 3, 3, 3, 4, 5]);
+        body.extend(part(id, &condition_body(random, id)));
+    }
+    if random.percent(60) {
+        body.truncate(random.between(0, body.len()));
+    }
+    let mut octets = part(kind.request_id(), &body);
+    if random.percent(20) {
+        octets[1] += 1;
+    }
+    octets
 }
 
 /// An event request that fills a frame of 2,304 octets to within one on a full log: 65 events (35 octets

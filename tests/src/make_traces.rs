@@ -6,6 +6,7 @@ use crate::make_requests::{condition_body, crowded_request, request_frame, Taste
 use crate::octets::{Address, Kind};
 use crate::random::Random;
 use crate::request::Wanted;
+use crate::setup::{identity_is_good, list_is_good};
 use crate::station::Logging;
 use crate::trace::{write_record, Record, LONGEST_TRACE};
 
@@ -17,8 +18,8 @@ const BUFFERS: [usize; 32] = [
 ];
 
 /// How often each call comes: clock, logging, event frame, diagnostic frame, report call, move, network
-/// change, setup, request writer, report reader.
-type Weights = [usize; 10];
+/// change, setup, request writer, report reader, and the calls around a timeout.
+type Weights = [usize; 11];
 
 /// What a trace is like as a whole.
 struct Plan {
@@ -27,6 +28,8 @@ struct Plan {
     loggings_first: usize,
     steps: [usize; 7],
     short_buffers: bool,
+    /// Percent of event frames that fill a report frame.
+    crowded: usize,
 }
 
 /// Everyday calls; full logs; little but diagnostics; logs that overtake their reports; many faults.
@@ -34,22 +37,30 @@ fn plan(random: &mut Random) -> Plan {
     let taste = Taste { faulty: 12, cancels: 8, extras: true };
     let small_steps = [30, 40, 15, 4, 1, 2, 4];
     let everyday = Plan {
-        weights: [4, 22, 16, 10, 32, 2, 1, 1, 3, 4],
+        weights: [4, 22, 16, 10, 32, 2, 1, 1, 3, 4, 2],
         taste,
         loggings_first: random.between(0, 20),
         steps: small_steps,
         short_buffers: random.percent(50),
+        crowded: 5,
     };
-    match random.between(0, 5) {
+    match random.between(0, 6) {
         0 => Plan { loggings_first: random.between(60, 140), ..everyday },
+        5 => Plan {
+            weights: [1, 5, 30, 2, 50, 1, 0, 0, 0, 0, 0],
+            loggings_first: random.between(64, 70),
+            short_buffers: false,
+            crowded: 50,
+            ..everyday
+        },
         1 => Plan {
-            weights: [10, 2, 2, 30, 30, 1, 1, 1, 0, 0],
+            weights: [10, 2, 2, 30, 30, 1, 1, 1, 0, 0, 10],
             taste: Taste { faulty: 4, ..taste },
             steps: [30, 10, 45, 2, 1, 6, 2],
             ..everyday
         },
         2 => Plan {
-            weights: [0, 60, 8, 2, 25, 1, 0, 0, 0, 0],
+            weights: [0, 60, 8, 2, 25, 1, 0, 0, 0, 0, 0],
             taste: Taste { faulty: 0, ..taste },
             loggings_first: 64,
             short_buffers: true,
@@ -57,7 +68,7 @@ fn plan(random: &mut Random) -> Plan {
         },
         3 => Plan { taste: Taste { faulty: 60, ..taste }, steps: [10, 10, 10, 10, 10, 10, 10], ..everyday },
         4 => Plan {
-            weights: [2, 30, 14, 6, 30, 8, 4, 3, 1, 1],
+            weights: [2, 30, 14, 6, 30, 8, 4, 3, 1, 1, 2],
             steps: [20, 30, 10, 20, 10, 5, 5],
             ..everyday
         },
@@ -129,8 +140,11 @@ impl Maker<'_> {
         self.reading
     }
 
-    /// One call, by the plan's weights.
+    /// One call, by the plan's weights; a gate with no console is soon set up anew.
     fn call(&mut self) {
+        if self.listed.is_empty() && self.random.percent(12) {
+            return self.setup();
+        }
         match self.random.weighted(&self.plan.weights) {
             0 => {
                 let reading = self.step();
@@ -154,17 +168,18 @@ impl Maker<'_> {
             }
             7 => self.setup(),
             8 => self.write(),
-            _ => {
+            9 => {
                 let (destination, octets) = report_frame(self.random);
                 self.push(Record::Read { destination, octets });
             }
+            _ => self.around_a_timeout(),
         }
     }
 
-    /// A list for a setup, move or network change; remembered where it is good.
+    /// A list for a move or network change; remembered where it will be accepted.
     fn list(&mut self) -> Vec<Address> {
-        let (list, good) = console_list(self.random);
-        if good {
+        let list = console_list(self.random);
+        if !self.listed.is_empty() && list_is_good(&list) {
             self.listed = list.clone();
         }
         list
@@ -172,8 +187,10 @@ impl Maker<'_> {
 
     /// A setup, at times refused.
     fn setup(&mut self) {
-        let list = self.list();
+        let list = console_list(self.random);
         let identity = identity(self.random, 6);
+        let accepted = list_is_good(&list) && identity_is_good(&identity);
+        self.listed = if accepted { list.clone() } else { Vec::new() };
         self.push(Record::Setup { identity, list });
     }
 
@@ -206,7 +223,7 @@ impl Maker<'_> {
         let (reading, source) = (self.step(), self.sender());
         let random = &mut *self.random;
         let dialog = random.pick(&[1, 1, 1, 2, 2, 3, 255]);
-        let octets = if kind == Kind::Event && random.percent(8) {
+        let octets = if kind == Kind::Event && random.percent(self.plan.crowded) {
             crowded_request(random, dialog)
         } else {
             request_frame(random, kind, dialog, self.plan.taste)
@@ -227,6 +244,38 @@ impl Maker<'_> {
         };
         let fill = random.pick(&[0, 0xEE, 0xFF]);
         self.push(Record::Report { reading, console, kind, buffer, fill });
+    }
+
+    /// A diagnostic request, a call of any kind at its timeout or one later, at times a step back by one,
+    /// and a report call: what was dropped stays dropped, whatever the call between was answered.
+    fn around_a_timeout(&mut self) {
+        let (accepted, source) = (self.step(), self.sender());
+        let random = &mut *self.random;
+        let timeout = random.between(0, 3) as u8;
+        let octets = vec![10, 2, random.octet().max(1), 80, 4, 5, random.pick(&[1, 2]), timeout, 0];
+        let kind = Kind::Diagnostic;
+        let buffer = random.pick(&[0, 259, 260, 300]);
+        let reading = accepted.wrapping_add(u32::from(timeout) * 1000 + random.pick(&[0, 1, 1, 1]));
+        let list = console_list(random);
+        let refused_time = Logging { time: [0; 9], transition: transition(random), departure: 0 };
+        let unlisted = [2, 0, 0, 0, 0, 6];
+        let call = |destination, source| Record::Frame { reading, destination, source, octets: vec![10, 0, 7] };
+        let between = match random.between(0, 8) {
+            0 => Record::Clock { reading },
+            1 => Record::Log { reading, logging: refused_time },
+            2 => call([1; 6], source),
+            3 => call(STATION, unlisted),
+            4 => call(STATION, source),
+            5 => Record::Report { reading, console: unlisted, kind, buffer, fill: 0 },
+            6 => Record::Report { reading, console: source, kind: Kind::Event, buffer, fill: 0 },
+            7 => Record::Roam { reading, list: Vec::new() },
+            _ => Record::Change { reading, list: [list.clone(), list].concat() },
+        };
+        let back = u32::from(random.percent(70));
+        self.push(Record::Frame { reading: accepted, destination: STATION, source, octets });
+        self.push(between);
+        self.reading = reading.wrapping_sub(back);
+        self.push(Record::Report { reading: self.reading, console: source, kind, buffer: 300, fill: 0xEE });
     }
 
     /// A request writer's record.

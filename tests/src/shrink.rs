@@ -1,6 +1,7 @@
 //! The shortest failing input that can be found by taking things away.
 
-use crate::octets::Kind;
+use crate::cases::IDENTITY;
+use crate::request::Wanted;
 use crate::trace::{read_record, write_record, Record};
 
 /// At most this many inputs are tried, so that shrinking ends in reasonable time.
@@ -32,7 +33,7 @@ pub fn shrink_list<T: Clone>(items: &[T], fails: &mut dyn FnMut(&[T]) -> bool) -
     }
 }
 
-/// Takes away records, then octets of the frames inside them, then buffer lengths.
+/// Takes away records, then octets of the identities and frames inside them, then buffer lengths.
 pub fn shrink_trace(records: &[Vec<u8>], fails: &mut dyn FnMut(&[Vec<u8>]) -> bool) -> Vec<Vec<u8>> {
     let mut kept = shrink_list(records, fails);
     for index in 0..kept.len() {
@@ -50,6 +51,14 @@ pub fn shrink_trace(records: &[Vec<u8>], fails: &mut dyn FnMut(&[Vec<u8>]) -> bo
 /// A shorter record that still fails.
 fn shrink_record(record: Record, fails: &mut dyn FnMut(&Record) -> bool) -> Record {
     match record {
+        Record::Setup { identity, list } => {
+            let with = |identity: &[u8]| Record::Setup { identity: identity.to_vec(), list: list.clone() };
+            let simple = with(&IDENTITY);
+            if fails(&simple) {
+                return simple;
+            }
+            with(&shrink_list(&identity, &mut |fewer| fails(&with(fewer))))
+        }
         Record::Frame { reading, destination, source, octets } => {
             let with = |octets: &[u8]| Record::Frame { reading, destination, source, octets: octets.to_vec() };
             with(&shrink_list(&octets, &mut |fewer| fails(&with(fewer))))
@@ -63,16 +72,12 @@ fn shrink_record(record: Record, fails: &mut dyn FnMut(&Record) -> bool) -> Reco
             with(shorter_buffer(buffer, &mut |length| fails(&with(length))))
         }
         Record::Write { buffer, fill, kind, dialog, wanted } => {
-            let with = |wanted: &[_]| write_of(buffer, fill, kind, dialog, wanted);
+            let with =
+                |wanted: &[Wanted]| Record::Write { buffer, fill, kind, dialog, wanted: wanted.to_vec() };
             with(&shrink_list(&wanted, &mut |fewer| fails(&with(fewer))))
         }
         other => other,
     }
-}
-
-/// A request writer's record with these elements.
-fn write_of(buffer: usize, fill: u8, kind: Kind, dialog: u8, wanted: &[crate::request::Wanted]) -> Record {
-    Record::Write { buffer, fill, kind, dialog, wanted: wanted.to_vec() }
 }
 
 /// The first of a few lengths below this one that still fails.
