@@ -91,8 +91,7 @@ fn frame_case(title: &'static str, octets: &[u8], printed: &str) -> Case {
 /// One event, one request for all events with up to four given, one report.
 fn age_case(title: &'static str, departure: u32, arrival: u32, time_units: u16) -> Case {
     let ask = [0x0A, 0, 7, 0x4E, 3, 5, 0, 4];
-    let records =
-        [setup(), logging(arrival, departure), frame(arrival, &ask), report(arrival, Kind::Event)];
+    let records = [setup(), logging(arrival, departure), frame(arrival, &ask), report(arrival, Kind::Event)];
     let given = reported(&format!("0a0107{}", event_element(time_units)));
     Case { title, input: trace(&records), printed: format!("accepted\naccepted\naccepted\n{given}") }
 }
@@ -101,7 +100,11 @@ fn age_case(title: &'static str, departure: u32, arrival: u32, time_units: u16) 
 fn threshold_case(title: &'static str, threshold: u8, answer: &str) -> Case {
     let ask = [0x0A, 0, 7, 0x4E, 7, 5, 0, 4, 2, 2, threshold, 0];
     let records = [setup(), logging(10, 4_294_967_290), frame(10, &ask), report(10, Kind::Event)];
-    Case { title, input: trace(&records), printed: format!("accepted\naccepted\naccepted\n{}", reported(answer)) }
+    Case {
+        title,
+        input: trace(&records),
+        printed: format!("accepted\naccepted\naccepted\n{}", reported(answer)),
+    }
 }
 
 /// A diagnostic accepted at 4,294,966,000 with timeout 2 s, and a report call later.
@@ -180,9 +183,7 @@ fn event_report() -> Vec<u8> {
 /// Empty and over-long input, each call before any setup, and traces as long as a trace may be.
 pub fn limits() -> Vec<Input> {
     let clock = write_record(&Record::Clock { reading: 0 });
-    let read = |octets: usize| {
-        write_record(&Record::Read { destination: STATION, octets: vec![0; octets] })
-    };
+    let read = |octets: usize| write_record(&Record::Read { destination: STATION, octets: vec![0; octets] });
     // Records of 9 octets and their frames, 262,144 octets in all.
     let mut longest: Vec<Vec<u8>> = (0..63).map(|_| read(4096)).collect();
     let left = LONGEST_TRACE - longest.concat().len();

@@ -88,6 +88,11 @@ pub fn compare_report(programs: &Programs, tally: &Tally, input: &[u8]) -> Resul
     compare_octets(programs, tally, "report", input, list_report_input)
 }
 
+/// A trace's records, a line each.
+pub fn records_text(records: &[Vec<u8>]) -> String {
+    records.iter().map(|record| hexadecimal(record)).collect::<Vec<_>>().join("\n")
+}
+
 /// The program `replay` on a trace; on a difference the trace is shortened record by record. The answer
 /// is what the program printed.
 pub fn compare_trace(programs: &Programs, tally: &Tally, records: &[Vec<u8>]) -> Result<Vec<u8>, Difference> {
@@ -102,9 +107,8 @@ pub fn compare_trace(programs: &Programs, tally: &Tally, records: &[Vec<u8>]) ->
         programs.run("replay", &input) != replay(&input).into_bytes()
     });
     let input = shortest.concat();
-    let records: Vec<String> = shortest.iter().map(|record| hexadecimal(record)).collect();
     Err(Difference {
-        title: format!("program replay; the records one by one:\n{}", records.join("\n")),
+        title: format!("program replay; the records:\n{}", records_text(&shortest)),
         expected: replay(&input).into_bytes(),
         printed: programs.run("replay", &input),
         input,

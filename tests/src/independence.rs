@@ -4,7 +4,7 @@
 //! setup, the list of the last accepted network change or setup, the later calls only, and a clock record
 //! at the same reading in place of each frame or report call of another sender.
 
-use crate::compare::Difference;
+use crate::compare::{records_text, Difference};
 use crate::octets::Address;
 use crate::program::Programs;
 use crate::shrink::shrink_trace;
@@ -25,7 +25,11 @@ struct Alone<'a> {
 }
 
 /// Compares every answer to every sender; gives the number of answers compared.
-pub fn check_independence(programs: &Programs, records: &[Vec<u8>], printed: &[u8]) -> Result<usize, Difference> {
+pub fn check_independence(
+    programs: &Programs,
+    records: &[Vec<u8>],
+    printed: &[u8],
+) -> Result<usize, Difference> {
     let compared = compare_alone(programs, records, printed);
     if let Ok(number) = compared {
         return Ok(number);
@@ -37,7 +41,10 @@ pub fn check_independence(programs: &Programs, records: &[Vec<u8>], printed: &[u
         unreachable!("the shortened trace fails like the whole one");
     };
     Err(Difference {
-        title: "demand 3: expected is the answer in the whole run, printed that of a new gate".to_string(),
+        title: format!(
+            "demand 3: expected is the answer in the whole run, printed that of a new gate; the records:\n{}",
+            records_text(&shortest)
+        ),
         input: shortest.concat(),
         expected: expected.into_bytes(),
         printed: alone.into_bytes(),
@@ -45,7 +52,11 @@ pub fn check_independence(programs: &Programs, records: &[Vec<u8>], printed: &[u
 }
 
 /// The comparison itself; an error has the whole run's answer and the new gate's.
-fn compare_alone(programs: &Programs, records: &[Vec<u8>], printed: &[u8]) -> Result<usize, (String, String)> {
+fn compare_alone(
+    programs: &Programs,
+    records: &[Vec<u8>],
+    printed: &[u8],
+) -> Result<usize, (String, String)> {
     let printed = String::from_utf8_lossy(printed);
     let mut compared = 0;
     let mut waiting: Vec<Alone> = Vec::new();
@@ -152,9 +163,7 @@ fn alone<'a>(stretch: &Stretch<'a>, sender: &Address) -> Vec<Alone<'a>> {
     let mut calls = vec![Alone { record: setup, in_whole_run: None }];
     for (record, answer) in &stretch.calls {
         calls.push(match sender_of(record) {
-            Some((own, _)) if own == *sender => {
-                Alone { record: record.clone(), in_whole_run: Some(answer) }
-            }
+            Some((own, _)) if own == *sender => Alone { record: record.clone(), in_whole_run: Some(answer) },
             Some((_, reading)) => Alone { record: Record::Clock { reading }, in_whole_run: None },
             None => Alone { record: record.clone(), in_whole_run: None },
         });

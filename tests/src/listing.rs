@@ -13,7 +13,8 @@ pub fn list_request(input: &[u8]) -> String {
         Err(refusal) => refusal.to_string(),
         Ok(frame) => {
             let action = frame.kind.request_action();
-            let first = format!("frame {} dialog {} elements {}\n", action, frame.dialog, frame.elements.len());
+            let first =
+                format!("frame {} dialog {} elements {}\n", action, frame.dialog, frame.elements.len());
             let lines = frame.elements.iter().map(|element| request_line(frame.kind, element));
             first + &lines.collect::<String>()
         }
@@ -53,7 +54,8 @@ pub fn list_report(destination: &Address, octets: &[u8]) -> String {
         Err(refusal) => refusal.to_string(),
         Ok(frame) => {
             let action = frame.kind.report_action();
-            let first = format!("report {} dialog {} elements {}\n", action, frame.dialog, frame.elements.len());
+            let first =
+                format!("report {} dialog {} elements {}\n", action, frame.dialog, frame.elements.len());
             let lines = frame.elements.iter().map(|element| report_line(frame.kind, element));
             first + &lines.collect::<String>()
         }

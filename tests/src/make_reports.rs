@@ -25,7 +25,8 @@ pub fn report_frame(random: &mut Random) -> (Address, Vec<u8>) {
 /// A frame that is seldom refused.
 fn valid_report(random: &mut Random, kind: Kind, dialog: u8) -> Vec<u8> {
     let mut frame = vec![10, kind.report_action(), dialog];
-    let number = if random.percent(3) { random.between(9, 70) } else { random.pick(&[0, 1, 1, 1, 2, 2, 3, 8]) };
+    let number =
+        if random.percent(3) { random.between(9, 70) } else { random.pick(&[0, 1, 1, 1, 2, 2, 3, 8]) };
     for _ in 0..number {
         if random.percent(8) {
             let length = random.between(0, 8);
@@ -120,7 +121,7 @@ pub fn transition(random: &mut Random) -> Transition {
     Transition {
         source: random.pick(&BSSIDS),
         target: random.pick(&BSSIDS),
-        time: random.next() as u16,
+        time: random.bits() as u16,
         reason: random.octet(),
         result: random.pick(&[0, 0, 0, 1, 1, 256, 65_535]),
         signal: [random.octet(), random.octet(), random.octet(), random.octet()],

@@ -13,8 +13,8 @@ use crate::trace::{write_record, Record, LONGEST_TRACE};
 /// Lengths of lent buffers at which something changes: the least buffer, one to several events of 35
 /// octets, reports of 5, the longest identity twice, the longest frame.
 const BUFFERS: [usize; 32] = [
-    0, 1, 2, 3, 258, 259, 260, 260, 260, 261, 262, 264, 265, 266, 267, 268, 283, 293, 294, 295, 296, 300, 318,
-    516, 517, 518, 2303, 2304, 2305, 2306, 4095, 4096,
+    0, 1, 2, 3, 258, 259, 260, 260, 260, 261, 262, 264, 265, 266, 267, 268, 283, 293, 294, 295, 296, 300,
+    318, 516, 517, 518, 2303, 2304, 2305, 2306, 4095, 4096,
 ];
 
 /// How often each call comes: clock, logging, event frame, diagnostic frame, report call, move, network
@@ -92,7 +92,7 @@ pub fn trace(random: &mut Random) -> Vec<Vec<u8>> {
     let reading = match random.between(0, 3) {
         0 => 0,
         1 => u32::MAX - random.between(0, 100_000) as u32,
-        _ => random.next() as u32,
+        _ => random.bits() as u32,
     };
     let calls = random.between(50, 400);
     let mut maker = Maker { random, plan, reading, listed: Vec::new(), records: Vec::new(), size: 0 };
@@ -199,7 +199,7 @@ impl Maker<'_> {
         let reading = self.step();
         let random = &mut *self.random;
         let taken = match random.between(0, 9) {
-            0 => random.next() as u32,
+            0 => random.bits() as u32,
             _ => random.pick(&[0, 1, 2, 15, 16, 17, 1000, 67_106, 67_107, 67_108, 67_109]),
         };
         let logging = Logging {
@@ -259,7 +259,8 @@ impl Maker<'_> {
         let list = console_list(random);
         let refused_time = Logging { time: [0; 9], transition: transition(random), departure: 0 };
         let unlisted = [2, 0, 0, 0, 0, 6];
-        let call = |destination, source| Record::Frame { reading, destination, source, octets: vec![10, 0, 7] };
+        let call =
+            |destination, source| Record::Frame { reading, destination, source, octets: vec![10, 0, 7] };
         let between = match random.between(0, 8) {
             0 => Record::Clock { reading },
             1 => Record::Log { reading, logging: refused_time },
@@ -284,18 +285,17 @@ impl Maker<'_> {
         let kind = random.pick(&[Kind::Event, Kind::Event, Kind::Diagnostic]);
         let number = random.pick(&[0, 1, 1, 2, 3, 7, 8, 8, 9, 10]);
         let mut wanted = Vec::new();
-        let mut token = random.between(1, 200) as u8;
-        for _ in 0..number {
+        let first = random.between(1, 200) as u8;
+        for token in first..first + number {
             let bound = random.pick(&[0u16, 1, 255]);
             let every = random.percent(50);
             let ids: Vec<u8> = (0..5).filter(|_| every || random.percent(30)).collect();
             wanted.push(Wanted {
-                token: if random.percent(3) { random.pick(&[0, token.wrapping_sub(1)]) } else { token },
+                token: if random.percent(3) { random.pick(&[0, token - 1]) } else { token },
                 ty: random.pick(&[0, 0, 0, 0, 1, 255]),
                 bound: if kind == Kind::Event { bound } else { bound * 257 },
                 conditions: ids.iter().map(|id| (*id, condition_body(random, *id))).collect(),
             });
-            token += 1;
         }
         let buffer = random.pick(&[0, 265, 266, 267, 267, 268, 300, 4096]);
         let (fill, dialog) = (random.pick(&[0, 0xEE]), random.pick(&[0, 1, 7, 7, 7, 255, 255]));

@@ -9,13 +9,13 @@ impl Random {
     /// The numbers for item `index` of `stream` under `seed`.
     pub fn new(seed: u64, stream: u64, index: u64) -> Random {
         let mut random = Random { state: seed };
-        random.state = random.next() ^ stream.wrapping_mul(0xD1B5_4A32_D192_ED03);
-        random.state = random.next() ^ index.wrapping_mul(0x8CB9_2BA7_2F3D_8DD7);
+        random.state = random.bits() ^ stream.wrapping_mul(0xD1B5_4A32_D192_ED03);
+        random.state = random.bits() ^ index.wrapping_mul(0x8CB9_2BA7_2F3D_8DD7);
         random
     }
 
     /// The next 64 bits.
-    pub fn next(&mut self) -> u64 {
+    pub fn bits(&mut self) -> u64 {
         self.state = self.state.wrapping_add(0x9E37_79B9_7F4A_7C15);
         let mut mixed = self.state;
         mixed = (mixed ^ (mixed >> 30)).wrapping_mul(0xBF58_476D_1CE4_E5B9);
@@ -25,7 +25,7 @@ impl Random {
 
     /// A number from `low` to `high`, both possible.
     pub fn between(&mut self, low: usize, high: usize) -> usize {
-        low + (self.next() % (high - low + 1) as u64) as usize
+        low + (self.bits() % (high - low + 1) as u64) as usize
     }
 
     /// True `times` times in a hundred.
@@ -52,7 +52,7 @@ impl Random {
 
     /// One octet.
     pub fn octet(&mut self) -> u8 {
-        self.next() as u8
+        self.bits() as u8
     }
 
     /// `number` octets.

@@ -60,7 +60,8 @@ fn shrink_record(record: Record, fails: &mut dyn FnMut(&Record) -> bool) -> Reco
             with(&shrink_list(&identity, &mut |fewer| fails(&with(fewer))))
         }
         Record::Frame { reading, destination, source, octets } => {
-            let with = |octets: &[u8]| Record::Frame { reading, destination, source, octets: octets.to_vec() };
+            let with =
+                |octets: &[u8]| Record::Frame { reading, destination, source, octets: octets.to_vec() };
             with(&shrink_list(&octets, &mut |fewer| fails(&with(fewer))))
         }
         Record::Read { destination, octets } => {

@@ -265,7 +265,8 @@ fn buffer_line(buffer: &[u8]) -> String {
 
 /// Octets in lowercase hexadecimal.
 pub fn hexadecimal(octets: &[u8]) -> String {
-    const DIGITS: [char; 16] = ['0', '1', '2', '3', '4', '5', '6', '7', '8', '9', 'a', 'b', 'c', 'd', 'e', 'f'];
+    const DIGITS: [char; 16] =
+        ['0', '1', '2', '3', '4', '5', '6', '7', '8', '9', 'a', 'b', 'c', 'd', 'e', 'f'];
     let digit = |four_bits: u8| DIGITS[usize::from(four_bits)];
     octets.iter().flat_map(|octet| [digit(octet / 16), digit(octet % 16)]).collect()
 }

@@ -35,7 +35,12 @@ fn ask(station: &mut Station, reading: u32, frame: &[u8]) {
 }
 
 /// A report call of A, with a buffer of this length: the answer and the frame.
-fn give(station: &mut Station, reading: u32, kind: Kind, length: usize) -> (Result<Answer, Refusal>, Vec<u8>) {
+fn give(
+    station: &mut Station,
+    reading: u32,
+    kind: Kind,
+    length: usize,
+) -> (Result<Answer, Refusal>, Vec<u8>) {
     let mut buffer = vec![0xEE; length];
     let answer = station.report(reading, &A, kind, &mut buffer);
     let written = if let Ok(Answer::Length(written)) = answer { written } else { 0 };
