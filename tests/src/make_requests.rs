@@ -14,8 +14,6 @@ pub struct Taste {
     pub faulty: usize,
     /// Percent of diagnostic elements that cancel.
     pub cancels: usize,
-    /// Whether elements of other IDs and subelements that are passed over stand between.
-    pub extras: bool,
 }
 
 /// A request frame: valid, damaged, or noise.
@@ -90,18 +88,18 @@ fn valid_request(random: &mut Random, kind: Kind, dialog: u8, taste: Taste) -> V
         token = 0;
     }
     for _ in 0..number {
-        if taste.extras && random.percent(10) {
+        if random.percent(10) {
             let body = some_octets(random, 6);
             let other_request = 158 - kind.request_id();
             frame.extend(part(random.pick(&[0, 77, other_request, 79, 81, 221, 255]), &body));
         }
         frame.extend(match kind {
-            Kind::Event => event_element(random, token, taste),
+            Kind::Event => event_element(random, token),
             Kind::Diagnostic => diagnostic_element(random, token, taste),
         });
         token += 1;
     }
-    if taste.extras && random.percent(5) {
+    if random.percent(5) {
         frame.extend(part(random.pick(&[0, 79, 81, 221]), &some_octets(random, 250)));
     }
     frame
@@ -114,12 +112,12 @@ fn some_octets(random: &mut Random, most: usize) -> Vec<u8> {
 }
 
 /// An element of an Event Request frame.
-fn event_element(random: &mut Random, token: u8, taste: Taste) -> Vec<u8> {
+fn event_element(random: &mut Random, token: u8) -> Vec<u8> {
     let ty = if random.percent(80) { 0 } else { random.pick(&[1, 2, 3, 4, 221, 255]) };
     let limit = random.pick(&[0, 1, 1, 2, 3, 5, 10, 64, 65, 255, 255]);
     let mut body = vec![token, ty, limit];
     if ty == 0 {
-        body.extend(condition_parts(random, taste));
+        body.extend(condition_parts(random));
     } else {
         body.extend(some_octets(random, 4));
     }
@@ -142,20 +140,20 @@ pub fn condition_body(random: &mut Random, id: u8) -> Vec<u8> {
 }
 
 /// Conditions in any order, with subelements that are passed over between them.
-fn condition_parts(random: &mut Random, taste: Taste) -> Vec<u8> {
+fn condition_parts(random: &mut Random) -> Vec<u8> {
     let mut ids: Vec<u8> = (0..5).filter(|_| random.percent(22)).collect();
     if random.percent(30) {
         ids.reverse();
     }
     let mut octets = Vec::new();
     for id in ids {
-        if taste.extras && random.percent(10) {
+        if random.percent(10) {
             let body = some_octets(random, 4);
             octets.extend(part(random.pick(&[5, 5, 6, 221, 255]), &body));
         }
         octets.extend(part(id, &condition_body(random, id)));
     }
-    if taste.extras && random.percent(8) {
+    if random.percent(8) {
         let id = random.pick(&[0, 1, 2, 3, 4, 5, 255]);
         let body = if id < 5 { condition_body(random, id) } else { Vec::new() };
         octets.extend(part(id, &body));
@@ -169,7 +167,7 @@ fn diagnostic_element(random: &mut Random, token: u8, taste: Taste) -> Vec<u8> {
     let timeout = random.pick(&[0u16, 0, 1, 1, 2, 2, 3, 5, 60, 3600, 65_535]);
     let mut body = vec![token, ty];
     body.extend(timeout.to_le_bytes());
-    if taste.extras && random.percent(20) {
+    if random.percent(20) {
         for _ in 0..random.between(1, 3) {
             let inner = some_octets(random, 4);
             body.extend(part(random.octet(), &inner));

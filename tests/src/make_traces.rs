@@ -34,7 +34,7 @@ struct Plan {
 
 /// Everyday calls; full logs; little but diagnostics; logs that overtake their reports; many faults.
 fn plan(random: &mut Random) -> Plan {
-    let taste = Taste { faulty: 12, cancels: 8, extras: true };
+    let taste = Taste { faulty: 12, cancels: 8 };
     let small_steps = [30, 40, 15, 4, 1, 2, 4];
     let everyday = Plan {
         weights: [4, 22, 16, 10, 32, 2, 1, 1, 3, 4, 2],
@@ -132,7 +132,10 @@ impl Maker<'_> {
             1 => random.between(1, 40) as u32,
             2 => random.pick(&[500, 999, 1000, 1000, 1001, 2000, 2001, 3000, 5001]),
             3 => 86_400_000 * random.between(1, 40) as u32,
-            4 => (u32::MAX - self.reading).wrapping_sub(random.between(0, 2000) as u32),
+            4 => {
+                let before = random.between(0, 2000) as u32;
+                random.pick(&[u32::MAX - before, u32::MAX, 0, 1]).wrapping_sub(self.reading)
+            }
             5 => u32::MAX,
             _ => random.pick(&[59_999, 60_000, 60_000, 60_001, 120_000, 300_000]),
         };
@@ -249,6 +252,9 @@ impl Maker<'_> {
     /// A diagnostic request, a call of any kind at its timeout or one later, at times a step back by one,
     /// and a report call: what was dropped stays dropped, whatever the call between was answered.
     fn around_a_timeout(&mut self) {
+        if self.random.percent(25) {
+            self.reading = self.random.pick(&[0, 1, u32::MAX, u32::MAX - 999, u32::MAX - 1000]);
+        }
         let (accepted, source) = (self.step(), self.sender());
         let random = &mut *self.random;
         let timeout = random.between(0, 3) as u8;
@@ -287,11 +293,12 @@ impl Maker<'_> {
         let mut wanted = Vec::new();
         let first = random.between(1, 200) as u8;
         for token in first..first + number {
+            let wrong = if token - first >= 8 { 30 } else { 3 };
             let bound = random.pick(&[0u16, 1, 255]);
             let every = random.percent(50);
             let ids: Vec<u8> = (0..5).filter(|_| every || random.percent(30)).collect();
             wanted.push(Wanted {
-                token: if random.percent(3) { random.pick(&[0, token - 1]) } else { token },
+                token: if random.percent(wrong) { random.pick(&[0, first]) } else { token },
                 ty: random.pick(&[0, 0, 0, 0, 1, 255]),
                 bound: if kind == Kind::Event { bound } else { bound * 257 },
                 conditions: ids.iter().map(|id| (*id, condition_body(random, *id))).collect(),

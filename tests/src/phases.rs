@@ -77,7 +77,7 @@ impl Run {
             let mut records = Vec::new();
             for place in 0..in_this_trace {
                 let kind = random.pick(&[Kind::Event, Kind::Event, Kind::Diagnostic]);
-                let taste = Taste { faulty: 50, cancels: 5, extras: true };
+                let taste = Taste { faulty: 50, cancels: 5 };
                 let dialog = random.pick(&[1, 7, 255]);
                 let octets = request_frame(&mut random, kind, dialog, taste);
                 if place % BY_ITSELF == 0 {
