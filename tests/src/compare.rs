@@ -1,0 +1,116 @@
+//! The programs' output against the separately written reader and gate.
+
+use crate::listing::{list_report_input, list_request};
+use crate::program::Programs;
+use crate::shrink::{shrink_list, shrink_trace};
+use crate::trace::{hexadecimal, replay};
+use std::fmt;
+use std::sync::atomic::{AtomicU64, Ordering};
+
+/// Two outputs that ought to be one, and the input that they came from.
+pub struct Difference {
+    pub title: String,
+    pub input: Vec<u8>,
+    pub expected: Vec<u8>,
+    pub printed: Vec<u8>,
+}
+
+impl fmt::Display for Difference {
+    /// The input in hexadecimal and both outputs.
+    fn fmt(&self, out: &mut fmt::Formatter) -> fmt::Result {
+        writeln!(out, "DIFFERENCE: {}", self.title)?;
+        writeln!(out, "input ({} octets): {}", self.input.len(), hexadecimal(&self.input))?;
+        writeln!(out, "expected:\n{}", String::from_utf8_lossy(&self.expected))?;
+        writeln!(out, "printed:\n{}", String::from_utf8_lossy(&self.printed))
+    }
+}
+
+/// How often each refusal number was printed by a program, and how many lines there were.
+#[derive(Default)]
+pub struct Tally {
+    refusals: [AtomicU64; 18],
+    lines: AtomicU64,
+}
+
+impl Tally {
+    /// Counts the refusals among the printed lines.
+    fn count(&self, printed: &[u8]) {
+        for line in printed.split(|octet| *octet == b'\n').filter(|line| !line.is_empty()) {
+            self.lines.fetch_add(1, Ordering::Relaxed);
+            let Some(rest) = line.strip_prefix(b"refused ") else { continue };
+            let digits: String = rest.iter().take_while(|o| **o != b' ').map(|o| char::from(*o)).collect();
+            if let Some(count) = digits.parse().ok().and_then(|number: usize| self.refusals.get(number)) {
+                count.fetch_add(1, Ordering::Relaxed);
+            }
+        }
+    }
+
+    /// Prints the counts; false where a number from 1 to 17 was never seen.
+    pub fn print(&self) -> bool {
+        println!("lines compared: {}", self.lines.load(Ordering::Relaxed));
+        let counts: Vec<u64> = self.refusals.iter().map(|count| count.load(Ordering::Relaxed)).collect();
+        for (number, count) in counts.iter().enumerate().skip(1) {
+            println!("refusal {number:2}: {count}");
+        }
+        counts[1..].iter().all(|count| *count > 0)
+    }
+}
+
+/// Runs the program on the input and compares; on a difference the input is shortened octet by octet.
+fn compare_octets(
+    programs: &Programs,
+    tally: &Tally,
+    name: &str,
+    input: &[u8],
+    expect: fn(&[u8]) -> String,
+) -> Result<(), Difference> {
+    let printed = programs.run(name, input);
+    tally.count(&printed);
+    if printed == expect(input).into_bytes() {
+        return Ok(());
+    }
+    let shortest = shrink_list(input, &mut |fewer| programs.run(name, fewer) != expect(fewer).into_bytes());
+    Err(Difference {
+        title: format!("program {name}"),
+        expected: expect(&shortest).into_bytes(),
+        printed: programs.run(name, &shortest),
+        input: shortest,
+    })
+}
+
+/// The program `frame` on one request frame.
+pub fn compare_frame(programs: &Programs, tally: &Tally, input: &[u8]) -> Result<(), Difference> {
+    compare_octets(programs, tally, "frame", input, list_request)
+}
+
+/// The program `report` on a destination and one report frame.
+pub fn compare_report(programs: &Programs, tally: &Tally, input: &[u8]) -> Result<(), Difference> {
+    compare_octets(programs, tally, "report", input, list_report_input)
+}
+
+/// A trace's records, a line each.
+pub fn records_text(records: &[Vec<u8>]) -> String {
+    records.iter().map(|record| hexadecimal(record)).collect::<Vec<_>>().join("\n")
+}
+
+/// The program `replay` on a trace; on a difference the trace is shortened record by record. The answer
+/// is what the program printed.
+pub fn compare_trace(programs: &Programs, tally: &Tally, records: &[Vec<u8>]) -> Result<Vec<u8>, Difference> {
+    let input = records.concat();
+    let printed = programs.run("replay", &input);
+    tally.count(&printed);
+    if printed == replay(&input).into_bytes() {
+        return Ok(printed);
+    }
+    let shortest = shrink_trace(records, &mut |fewer| {
+        let input = fewer.concat();
+        programs.run("replay", &input) != replay(&input).into_bytes()
+    });
+    let input = shortest.concat();
+    Err(Difference {
+        title: format!("program replay; the records:\n{}", records_text(&shortest)),
+        expected: replay(&input).into_bytes(),
+        printed: programs.run("replay", &input),
+        input,
+    })
+}

@@ -1,0 +1,30 @@
+//! A separately written reader and gate for document 01, and the differential tests made with it.
+
+// The reader and the gate.
+pub mod clock;
+pub mod event_request;
+pub mod listing;
+pub mod octets;
+pub mod refusal;
+pub mod report;
+pub mod request;
+pub mod setup;
+pub mod station;
+pub mod trace;
+pub mod transition;
+
+// Made-up input.
+pub mod cases;
+pub mod damage;
+pub mod make_identity;
+pub mod make_reports;
+pub mod make_requests;
+pub mod make_traces;
+pub mod random;
+
+// The runner.
+pub mod compare;
+pub mod independence;
+pub mod phases;
+pub mod program;
+pub mod shrink;

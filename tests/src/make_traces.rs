@@ -1,0 +1,346 @@
+//! Made-up traces.
+
+use crate::make_identity::{console_list, identity, STATION};
+use crate::make_reports::{report_frame, time, transition};
+use crate::make_requests::{condition_body, crowded_request, request_frame, Taste};
+use crate::octets::{Address, Kind};
+use crate::random::Random;
+use crate::request::Wanted;
+use crate::setup::{identity_is_good, list_is_good};
+use crate::station::Logging;
+use crate::trace::{write_record, Record, LONGEST_TRACE};
+
+/// Lengths of lent buffers at which something changes: the least buffer, one to several events of 35
+/// octets, reports of 5, the longest identity twice, the longest frame.
+const BUFFERS: [usize; 32] = [
+    0, 1, 2, 3, 258, 259, 260, 260, 260, 261, 262, 264, 265, 266, 267, 268, 283, 293, 294, 295, 296, 300,
+    318, 516, 517, 518, 2303, 2304, 2305, 2306, 4095, 4096,
+];
+
+/// How often each call comes: clock, logging, event frame, diagnostic frame, report call, move, network
+/// change, setup, request writer, report reader, and the calls around a timeout.
+type Weights = [usize; 11];
+
+/// What a trace is like as a whole.
+struct Plan {
+    weights: Weights,
+    taste: Taste,
+    loggings_first: usize,
+    steps: [usize; 7],
+    short_buffers: bool,
+    /// Percent of event frames that fill a report frame.
+    crowded: usize,
+}
+
+/// Everyday calls; full logs; little but diagnostics; logs that overtake their reports; many faults.
+fn plan(random: &mut Random) -> Plan {
+    let taste = Taste { faulty: 12, cancels: 8 };
+    let small_steps = [30, 40, 15, 4, 1, 2, 4];
+    let everyday = Plan {
+        weights: [4, 22, 16, 10, 32, 2, 1, 1, 3, 4, 2],
+        taste,
+        loggings_first: random.between(0, 20),
+        steps: small_steps,
+        short_buffers: random.percent(50),
+        crowded: 5,
+    };
+    match random.between(0, 6) {
+        0 => Plan { loggings_first: random.between(60, 140), ..everyday },
+        5 => Plan {
+            weights: [1, 5, 30, 2, 50, 1, 0, 0, 0, 0, 0],
+            loggings_first: random.between(64, 70),
+            short_buffers: false,
+            crowded: 50,
+            ..everyday
+        },
+        1 => Plan {
+            weights: [10, 2, 2, 30, 30, 1, 1, 1, 0, 0, 10],
+            taste: Taste { faulty: 4, ..taste },
+            steps: [30, 10, 45, 2, 1, 6, 2],
+            ..everyday
+        },
+        2 => Plan {
+            weights: [0, 60, 8, 2, 25, 1, 0, 0, 0, 0, 0],
+            taste: Taste { faulty: 0, ..taste },
+            loggings_first: 64,
+            short_buffers: true,
+            ..everyday
+        },
+        3 => Plan { taste: Taste { faulty: 60, ..taste }, steps: [10, 10, 10, 10, 10, 10, 10], ..everyday },
+        4 => Plan {
+            weights: [2, 30, 14, 6, 30, 8, 4, 3, 1, 1, 2],
+            steps: [20, 30, 10, 20, 10, 5, 5],
+            ..everyday
+        },
+        _ => everyday,
+    }
+}
+
+/// A trace in the making.
+struct Maker<'a> {
+    random: &'a mut Random,
+    plan: Plan,
+    reading: u32,
+    listed: Vec<Address>,
+    records: Vec<Vec<u8>>,
+    size: usize,
+}
+
+/// A trace of 50 to 400 calls, as its records; the last one is at times not a whole record.
+pub fn trace(random: &mut Random) -> Vec<Vec<u8>> {
+    let plan = plan(random);
+    let reading = match random.between(0, 3) {
+        0 => 0,
+        1 => u32::MAX - random.between(0, 100_000) as u32,
+        _ => random.bits() as u32,
+    };
+    let calls = random.between(50, 400);
+    let mut maker = Maker { random, plan, reading, listed: Vec::new(), records: Vec::new(), size: 0 };
+    if maker.random.percent(95) {
+        maker.setup();
+    }
+    for _ in 0..maker.plan.loggings_first {
+        maker.logging();
+    }
+    while maker.records.len() < calls && maker.size < LONGEST_TRACE - 8000 {
+        maker.call();
+    }
+    if maker.random.percent(10) {
+        maker.bad_record();
+    }
+    maker.records
+}
+
+impl Maker<'_> {
+    /// Appends a record.
+    fn push(&mut self, record: Record) {
+        self.push_octets(write_record(&record));
+    }
+
+    /// Appends octets as they are.
+    fn push_octets(&mut self, octets: Vec<u8>) {
+        self.size += octets.len();
+        self.records.push(octets);
+    }
+
+    /// The next call's reading: the same, little later, seconds, days, near the rollover, back by one,
+    /// minutes.
+    fn step(&mut self) -> u32 {
+        let random = &mut *self.random;
+        let forward = match random.weighted(&self.plan.steps) {
+            0 => 0,
+            1 => random.between(1, 40) as u32,
+            2 => random.pick(&[500, 999, 1000, 1000, 1001, 2000, 2001, 3000, 5001]),
+            3 => 86_400_000 * random.between(1, 40) as u32,
+            4 => {
+                let before = random.between(0, 2000) as u32;
+                random.pick(&[u32::MAX - before, u32::MAX, 0, 1]).wrapping_sub(self.reading)
+            }
+            5 => u32::MAX,
+            _ => random.pick(&[59_999, 60_000, 60_000, 60_001, 120_000, 300_000]),
+        };
+        self.reading = self.reading.wrapping_add(forward);
+        self.reading
+    }
+
+    /// One call, by the plan's weights; a gate with no console is soon set up anew.
+    fn call(&mut self) {
+        if self.listed.is_empty() && self.random.percent(12) {
+            return self.setup();
+        }
+        match self.random.weighted(&self.plan.weights) {
+            0 => {
+                let reading = self.step();
+                self.push(Record::Clock { reading });
+            }
+            1 => {
+                for _ in 0..self.random.pick(&[1, 1, 1, 2, 5]) {
+                    self.logging();
+                }
+            }
+            2 => self.frame(Kind::Event),
+            3 => self.frame(Kind::Diagnostic),
+            4 => self.report(),
+            5 => {
+                let (reading, list) = (self.step(), self.list());
+                self.push(Record::Roam { reading, list });
+            }
+            6 => {
+                let (reading, list) = (self.step(), self.list());
+                self.push(Record::Change { reading, list });
+            }
+            7 => self.setup(),
+            8 => self.write(),
+            9 => {
+                let (destination, octets) = report_frame(self.random);
+                self.push(Record::Read { destination, octets });
+            }
+            _ => self.around_a_timeout(),
+        }
+    }
+
+    /// A list for a move or network change; remembered where it will be accepted.
+    fn list(&mut self) -> Vec<Address> {
+        let list = console_list(self.random);
+        if !self.listed.is_empty() && list_is_good(&list) {
+            self.listed = list.clone();
+        }
+        list
+    }
+
+    /// A setup, at times refused.
+    fn setup(&mut self) {
+        let list = console_list(self.random);
+        let identity = identity(self.random, 6);
+        let accepted = list_is_good(&list) && identity_is_good(&identity);
+        self.listed = if accepted { list.clone() } else { Vec::new() };
+        self.push(Record::Setup { identity, list });
+    }
+
+    /// A logging: transition times around the edges of TUs and conditions, now and then any.
+    fn logging(&mut self) {
+        let reading = self.step();
+        let random = &mut *self.random;
+        let taken = match random.between(0, 9) {
+            0 => random.bits() as u32,
+            _ => random.pick(&[0, 1, 2, 15, 16, 17, 1000, 67_106, 67_107, 67_108, 67_109]),
+        };
+        let logging = Logging {
+            time: time(random, 5),
+            transition: transition(random),
+            departure: reading.wrapping_sub(taken),
+        };
+        self.push(Record::Log { reading, logging });
+    }
+
+    /// Mostly a listed requester.
+    fn sender(&mut self) -> Address {
+        if self.listed.is_empty() || self.random.percent(6) {
+            return self.random.pick(&[[2, 0, 0, 0, 0, 1], [2, 0, 0, 0, 0, 6], [3, 0, 0, 0, 0, 1], [0; 6]]);
+        }
+        self.random.pick(&self.listed)
+    }
+
+    /// A frame call; few dialog tokens, so that they are often equal.
+    fn frame(&mut self, kind: Kind) {
+        let (reading, source) = (self.step(), self.sender());
+        let random = &mut *self.random;
+        let dialog = random.pick(&[1, 1, 1, 2, 2, 3, 255]);
+        let octets = if kind == Kind::Event && random.percent(self.plan.crowded) {
+            crowded_request(random, dialog)
+        } else {
+            request_frame(random, kind, dialog, self.plan.taste)
+        };
+        let destination = if random.percent(3) { [255; 6] } else { STATION };
+        self.push(Record::Frame { reading, destination, source, octets });
+    }
+
+    /// A report call.
+    fn report(&mut self) {
+        let (reading, console) = (self.step(), self.sender());
+        let random = &mut *self.random;
+        let kind = random.pick(&[Kind::Event, Kind::Event, Kind::Diagnostic]);
+        let buffer = match random.between(0, 9) {
+            0 => random.between(0, 4096),
+            1..=4 if self.plan.short_buffers => random.between(260, 300),
+            _ => random.pick(&BUFFERS),
+        };
+        let fill = random.pick(&[0, 0xEE, 0xFF]);
+        self.push(Record::Report { reading, console, kind, buffer, fill });
+    }
+
+    /// A diagnostic request, a call of any kind at its timeout or one later, at times a step back by one,
+    /// and a report call: what was dropped stays dropped, whatever the call between was answered.
+    fn around_a_timeout(&mut self) {
+        if self.random.percent(25) {
+            self.reading = self.random.pick(&[0, 1, u32::MAX, u32::MAX - 999, u32::MAX - 1000]);
+        }
+        let (accepted, source) = (self.step(), self.sender());
+        let random = &mut *self.random;
+        let timeout = random.between(0, 3) as u8;
+        let octets = vec![10, 2, random.octet().max(1), 80, 4, 5, random.pick(&[1, 2]), timeout, 0];
+        let kind = Kind::Diagnostic;
+        let buffer = random.pick(&[0, 259, 260, 300]);
+        let reading = accepted.wrapping_add(u32::from(timeout) * 1000 + random.pick(&[0, 1, 1, 1]));
+        let list = console_list(random);
+        let refused_time = Logging { time: [0; 9], transition: transition(random), departure: 0 };
+        let unlisted = [2, 0, 0, 0, 0, 6];
+        let call =
+            |destination, source| Record::Frame { reading, destination, source, octets: vec![10, 0, 7] };
+        let between = match random.between(0, 8) {
+            0 => Record::Clock { reading },
+            1 => Record::Log { reading, logging: refused_time },
+            2 => call([1; 6], source),
+            3 => call(STATION, unlisted),
+            4 => call(STATION, source),
+            5 => Record::Report { reading, console: unlisted, kind, buffer, fill: 0 },
+            6 => Record::Report { reading, console: source, kind: Kind::Event, buffer, fill: 0 },
+            7 => Record::Roam { reading, list: Vec::new() },
+            _ => Record::Change { reading, list: [list.clone(), list].concat() },
+        };
+        let back = u32::from(random.percent(70));
+        self.push(Record::Frame { reading: accepted, destination: STATION, source, octets });
+        self.push(between);
+        self.reading = reading.wrapping_sub(back);
+        self.push(Record::Report { reading: self.reading, console: source, kind, buffer: 300, fill: 0xEE });
+    }
+
+    /// A request writer's record.
+    fn write(&mut self) {
+        let random = &mut *self.random;
+        let kind = random.pick(&[Kind::Event, Kind::Event, Kind::Diagnostic]);
+        let number = random.pick(&[0, 1, 1, 2, 3, 7, 8, 8, 9, 10]);
+        let mut wanted = Vec::new();
+        let first = random.between(1, 200) as u8;
+        for token in first..first + number {
+            let wrong = if token - first >= 8 { 30 } else { 3 };
+            let bound = random.pick(&[0u16, 1, 255]);
+            let every = random.percent(50);
+            let ids: Vec<u8> = (0..5).filter(|_| every || random.percent(30)).collect();
+            wanted.push(Wanted {
+                token: if random.percent(wrong) { random.pick(&[0, first]) } else { token },
+                ty: random.pick(&[0, 0, 0, 0, 1, 255]),
+                bound: if kind == Kind::Event { bound } else { bound * 257 },
+                conditions: ids.iter().map(|id| (*id, condition_body(random, *id))).collect(),
+            });
+        }
+        let buffer = random.pick(&[0, 265, 266, 267, 267, 268, 300, 4096]);
+        let (fill, dialog) = (random.pick(&[0, 0xEE]), random.pick(&[0, 1, 7, 7, 7, 255, 255]));
+        self.push(Record::Write { buffer, fill, kind, dialog, wanted });
+    }
+
+    /// A record that is cut, unknown, or has a field out of its range.
+    fn bad_record(&mut self) {
+        let random = &mut *self.random;
+        let reading = self.reading.to_le_bytes();
+        let report = |kind: u8, buffer: u16| {
+            let length = buffer.to_le_bytes();
+            [&[4][..], &reading, &[2, 0, 0, 0, 0, 1], &[kind], &length, &[0]].concat()
+        };
+        let write = |action: u8, bound: u16, conditions: &[u8]| {
+            let bound = bound.to_le_bytes();
+            [&[0x10, 11, 1, 0, action, 7, 1, 5, 0][..], &bound, conditions].concat()
+        };
+        let octets = match random.between(0, 13) {
+            0 => vec![random.pick(&[7, 8, 9, 15, 16 + 2, 32, 255])],
+            1 => report(2, 300),
+            2 => report(0, 4097),
+            3 => [&[0x11][..], &[2, 0, 0, 0, 0, 9], &4097u16.to_le_bytes(), &[0; 4097]].concat(),
+            4 => write(1, 0, &[0]),
+            5 => write(3, 0, &[0]),
+            6 => write(0, 256, &[0]),
+            7 => write(0, 0, &[1, 3, 2, 0, 0]),
+            8 => write(0, 0, &[2, 3, 1, 0, 3, 1, 0]),
+            9 => write(2, 0, &[2, 3, 1, 0, 2, 2, 0, 0]),
+            10 => write(0, 0, &[1, 5, 0]),
+            11 => [&[0x00][..], &4097u16.to_le_bytes(), &[0; 4100]].concat(),
+            12 => [&[0x10][..], &4097u16.to_le_bytes(), &[0, 0, 7, 0]].concat(),
+            _ => {
+                let mut cut = random.pick(&self.records);
+                cut.truncate(random.between(1, cut.len() - 1));
+                cut
+            }
+        };
+        self.push_octets(octets);
+    }
+}

@@ -1,0 +1,97 @@
+//! Report frames, read.
+
+use crate::octets::{is_group, part_at, Address, Kind, Part, CATEGORY, HEADER, LONGEST_FRAME};
+use crate::refusal::{refusal, Refusal};
+use crate::request::count_subelements;
+use crate::transition::{time_is_good, Time, Transition};
+
+/// What follows token, type and status.
+#[derive(Clone, Debug, PartialEq, Eq)]
+pub enum Rest {
+    Nothing,
+    Event(Time, Transition),
+    Unread(usize),
+    Subelements(usize),
+}
+
+/// "Report body: token, type, status", and the rest.
+#[derive(Clone, Debug, PartialEq, Eq)]
+pub struct ReportElement {
+    pub token: u8,
+    pub ty: u8,
+    pub status: u8,
+    pub rest: Rest,
+}
+
+/// A report frame that was read without refusal.
+#[derive(Clone, Debug, PartialEq, Eq)]
+pub struct ReportFrame {
+    pub kind: Kind,
+    pub dialog: u8,
+    pub elements: Vec<ReportElement>,
+}
+
+/// "Reading a report frame, given its destination: 11, 1, 2, then each element 4, 5, 17, then 14 or 7."
+pub fn read_report(destination: &Address, frame: &[u8]) -> Result<ReportFrame, Refusal> {
+    if is_group(destination) {
+        return Err(refusal(11, 0));
+    }
+    if frame.len() < HEADER || frame.len() > LONGEST_FRAME {
+        return Err(refusal(1, 0));
+    }
+    let kind = match (frame[0], frame[1]) {
+        (CATEGORY, 1) => Kind::Event,
+        (CATEGORY, 3) => Kind::Diagnostic,
+        _ => return Err(refusal(2, 0)),
+    };
+    let elements = read_elements(kind, frame, HEADER, Vec::new())?;
+    Ok(ReportFrame { kind, dialog: frame[2], elements })
+}
+
+/// "In each frame only its own element ID counts ...; others are passed over." Cause 4 is due for each.
+fn read_elements(
+    kind: Kind,
+    frame: &[u8],
+    at: usize,
+    mut before: Vec<ReportElement>,
+) -> Result<Vec<ReportElement>, Refusal> {
+    if at == frame.len() {
+        return Ok(before);
+    }
+    let element = part_at(frame, at).ok_or(refusal(4, at))?;
+    if element.id == kind.report_id() {
+        before.push(read_element(kind, frame, &element)?);
+    }
+    read_elements(kind, frame, element.next, before)
+}
+
+/// "each element 4, 5, 17, then 14 or 7": from 5 on. "Report status over 4; event body not 3 with
+/// status 1 to 4; event type 0 Successful not 3 or 33".
+fn read_element(kind: Kind, frame: &[u8], element: &Part) -> Result<ReportElement, Refusal> {
+    let body = element.body;
+    if body.len() < 3 {
+        return Err(refusal(5, element.start));
+    }
+    let (token, ty, status) = (body[0], body[1], body[2]);
+    let rest = match (kind, ty, status, body.len()) {
+        (_, _, 5.., _) => return Err(refusal(17, element.start)),
+        (Kind::Diagnostic, ..) => {
+            Rest::Subelements(count_subelements(&frame[..element.next], element.start + 5)?)
+        }
+        (Kind::Event, _, 1..=4, 3) | (Kind::Event, 0, 0, 3) => Rest::Nothing,
+        (Kind::Event, 0, 0, 33) => read_event(element)?,
+        (Kind::Event, 1.., 0, length) => Rest::Unread(length - 3),
+        (Kind::Event, ..) => return Err(refusal(17, element.start)),
+    };
+    Ok(ReportElement { token, ty, status, rest })
+}
+
+/// "9 octets of time and 21 of transition"; 14 at the element start "when reading".
+fn read_event(element: &Part) -> Result<Rest, Refusal> {
+    let mut time = [0; 9];
+    time.copy_from_slice(&element.body[3..12]);
+    if !time_is_good(&time) {
+        return Err(refusal(14, element.start));
+    }
+    Ok(Rest::Event(time, Transition::of(&element.body[12..])))
+}

@@ -1,0 +1,322 @@
+//! The program `replay`: its records, read and written, and what it prints.
+
+use crate::listing::list_report;
+use crate::octets::{address_of, u16_of, Address, Kind};
+use crate::refusal::Refusal;
+use crate::request::{condition_length, write_request, Wanted};
+use crate::station::{Answer, Logging, Station};
+use crate::transition::Transition;
+
+/// "at most 262,144 octets in all".
+pub const LONGEST_TRACE: usize = 262_144;
+/// "no length in them over 4,096".
+pub const LONGEST_FIELD: usize = 4096;
+
+/// One record.
+#[derive(Clone, Debug, PartialEq, Eq)]
+pub enum Record {
+    Setup { identity: Vec<u8>, list: Vec<Address> },
+    Clock { reading: u32 },
+    Log { reading: u32, logging: Logging },
+    Frame { reading: u32, destination: Address, source: Address, octets: Vec<u8> },
+    Report { reading: u32, console: Address, kind: Kind, buffer: usize, fill: u8 },
+    Roam { reading: u32, list: Vec<Address> },
+    Change { reading: u32, list: Vec<Address> },
+    Write { buffer: usize, fill: u8, kind: Kind, dialog: u8, wanted: Vec<Wanted> },
+    Read { destination: Address, octets: Vec<u8> },
+}
+
+/// Takes fields from the front of the input.
+struct Fields<'a> {
+    input: &'a [u8],
+    at: usize,
+}
+
+impl<'a> Fields<'a> {
+    /// The next `number` octets, or nothing where the record is cut.
+    fn octets(&mut self, number: usize) -> Option<&'a [u8]> {
+        let taken = self.input.get(self.at..self.at + number)?;
+        self.at += number;
+        Some(taken)
+    }
+
+    /// A field of one octet.
+    fn octet(&mut self) -> Option<u8> {
+        Some(self.octets(1)?[0])
+    }
+
+    /// A field of two octets.
+    fn two(&mut self) -> Option<u16> {
+        Some(u16_of(self.octets(2)?))
+    }
+
+    /// A reading, four octets.
+    fn reading(&mut self) -> Option<u32> {
+        let low = u32::from(self.two()?);
+        let high = u32::from(self.two()?);
+        Some(low + 65_536 * high)
+    }
+
+    /// An address, six octets.
+    fn address(&mut self) -> Option<Address> {
+        Some(address_of(self.octets(6)?))
+    }
+
+    /// "number of addresses (1), addresses (6 each)".
+    fn addresses(&mut self) -> Option<Vec<Address>> {
+        let number = self.octet()?;
+        (0..number).map(|_| self.address()).collect()
+    }
+
+    /// A length: "no length in them over 4,096".
+    fn length(&mut self) -> Option<usize> {
+        let length = usize::from(self.two()?);
+        (length <= LONGEST_FIELD).then_some(length)
+    }
+
+    /// "length (2), octets".
+    fn counted(&mut self) -> Option<Vec<u8>> {
+        let length = self.length()?;
+        Some(self.octets(length)?.to_vec())
+    }
+
+    /// A choice of kind: `first` stands for event, `second` for diagnostic.
+    fn kind(&mut self, first: u8, second: u8) -> Option<Kind> {
+        match self.octet()? {
+            octet if octet == first => Some(Kind::Event),
+            octet if octet == second => Some(Kind::Diagnostic),
+            _ => None,
+        }
+    }
+
+    /// "time (9), source (6), target (6), reason (1), result (2), source RCPI, source RSNI, target RCPI,
+    /// target RSNI (1 each), departure (4)".
+    fn logging(&mut self) -> Option<Logging> {
+        let mut time = [0; 9];
+        time.copy_from_slice(self.octets(9)?);
+        let transition = Transition {
+            source: self.address()?,
+            target: self.address()?,
+            time: 0,
+            reason: self.octet()?,
+            result: self.two()?,
+            signal: [self.octet()?, self.octet()?, self.octet()?, self.octet()?],
+        };
+        Some(Logging { time, transition, departure: self.reading()? })
+    }
+
+    /// "token (1), type (1), limit or timeout (2; a limit is below 256), number of conditions (1)".
+    fn wanted(&mut self, kind: Kind) -> Option<Wanted> {
+        let (token, ty, bound) = (self.octet()?, self.octet()?, self.two()?);
+        if kind == Kind::Event && bound > 255 {
+            return None;
+        }
+        let number = self.octet()?;
+        let mut conditions: Vec<(u8, Vec<u8>)> = Vec::new();
+        for _ in 0..number {
+            let condition = self.condition()?;
+            if conditions.last().is_some_and(|before| before.0 >= condition.0) {
+                return None;
+            }
+            conditions.push(condition);
+        }
+        Some(Wanted { token, ty, bound, conditions })
+    }
+
+    /// "each with ID (1, 0 to 4, rising), length (1, as document 01 has it), octets".
+    fn condition(&mut self) -> Option<(u8, Vec<u8>)> {
+        let id = self.octet()?;
+        let length = usize::from(self.octet()?);
+        if condition_length(id) != Some(length) {
+            return None;
+        }
+        Some((id, self.octets(length)?.to_vec()))
+    }
+
+    /// One record; nothing where it "is cut, unknown, or has a field out of the range given".
+    fn record(&mut self) -> Option<Record> {
+        Some(match self.octet()? {
+            0x00 => Record::Setup { identity: self.counted()?, list: self.addresses()? },
+            0x01 => Record::Clock { reading: self.reading()? },
+            0x02 => Record::Log { reading: self.reading()?, logging: self.logging()? },
+            0x03 => Record::Frame {
+                reading: self.reading()?,
+                destination: self.address()?,
+                source: self.address()?,
+                octets: self.counted()?,
+            },
+            0x04 => Record::Report {
+                reading: self.reading()?,
+                console: self.address()?,
+                kind: self.kind(0, 1)?,
+                buffer: self.length()?,
+                fill: self.octet()?,
+            },
+            0x05 => Record::Roam { reading: self.reading()?, list: self.addresses()? },
+            0x06 => Record::Change { reading: self.reading()?, list: self.addresses()? },
+            0x10 => {
+                let (buffer, fill) = (self.length()?, self.octet()?);
+                let (kind, dialog, number) = (self.kind(0, 2)?, self.octet()?, self.octet()?);
+                let wanted = (0..number).map(|_| self.wanted(kind)).collect::<Option<_>>()?;
+                Record::Write { buffer, fill, kind, dialog, wanted }
+            }
+            0x11 => Record::Read { destination: self.address()?, octets: self.counted()? },
+            _ => return None,
+        })
+    }
+}
+
+/// The record at the front of the input and its length.
+pub fn read_record(input: &[u8]) -> Option<(Record, usize)> {
+    let mut fields = Fields { input, at: 0 };
+    let record = fields.record()?;
+    Some((record, fields.at))
+}
+
+/// "number of addresses (1), addresses (6 each)", written.
+fn addresses_octets(list: &[Address]) -> Vec<u8> {
+    let mut octets = vec![list.len() as u8];
+    octets.extend(list.concat());
+    octets
+}
+
+/// "length (2), octets", written.
+fn counted_octets(counted: &[u8]) -> Vec<u8> {
+    let mut octets = (counted.len() as u16).to_le_bytes().to_vec();
+    octets.extend(counted);
+    octets
+}
+
+/// A record's octets.
+pub fn write_record(record: &Record) -> Vec<u8> {
+    match record {
+        Record::Setup { identity, list } => {
+            [vec![0x00], counted_octets(identity), addresses_octets(list)].concat()
+        }
+        Record::Clock { reading } => [vec![0x01], reading.to_le_bytes().to_vec()].concat(),
+        Record::Log { reading, logging } => {
+            let mut octets = vec![0x02];
+            octets.extend(reading.to_le_bytes());
+            octets.extend(logging.time);
+            octets.extend(logging.transition.source);
+            octets.extend(logging.transition.target);
+            octets.push(logging.transition.reason);
+            octets.extend(logging.transition.result.to_le_bytes());
+            octets.extend(logging.transition.signal);
+            octets.extend(logging.departure.to_le_bytes());
+            octets
+        }
+        Record::Frame { reading, destination, source, octets } => {
+            let calls = [vec![0x03], reading.to_le_bytes().to_vec()].concat();
+            [calls, destination.to_vec(), source.to_vec(), counted_octets(octets)].concat()
+        }
+        Record::Report { reading, console, kind, buffer, fill } => {
+            let mut octets = vec![0x04];
+            octets.extend(reading.to_le_bytes());
+            octets.extend(console);
+            octets.push(kind.request_action() / 2);
+            octets.extend((*buffer as u16).to_le_bytes());
+            octets.push(*fill);
+            octets
+        }
+        Record::Roam { reading, list } => {
+            [vec![0x05], reading.to_le_bytes().to_vec(), addresses_octets(list)].concat()
+        }
+        Record::Change { reading, list } => {
+            [vec![0x06], reading.to_le_bytes().to_vec(), addresses_octets(list)].concat()
+        }
+        Record::Write { buffer, fill, kind, dialog, wanted } => {
+            let mut octets = vec![0x10];
+            octets.extend((*buffer as u16).to_le_bytes());
+            octets.extend([*fill, kind.request_action(), *dialog, wanted.len() as u8]);
+            octets.extend(wanted.iter().flat_map(wanted_octets));
+            octets
+        }
+        Record::Read { destination, octets } => {
+            [vec![0x11], destination.to_vec(), counted_octets(octets)].concat()
+        }
+    }
+}
+
+/// One element of a request writer's record, written.
+fn wanted_octets(wanted: &Wanted) -> Vec<u8> {
+    let mut octets = vec![wanted.token, wanted.ty];
+    octets.extend(wanted.bound.to_le_bytes());
+    octets.push(wanted.conditions.len() as u8);
+    for (id, value) in &wanted.conditions {
+        octets.extend([*id, value.len() as u8]);
+        octets.extend(value);
+    }
+    octets
+}
+
+/// The line of an answer or a refusal.
+fn line(result: Result<Answer, Refusal>) -> String {
+    match result {
+        Ok(answer) => answer.to_string(),
+        Err(refusal) => refusal.to_string(),
+    }
+}
+
+/// "`buffer ` and the whole lent buffer in lowercase hexadecimal".
+fn buffer_line(buffer: &[u8]) -> String {
+    format!("buffer {}\n", hexadecimal(buffer))
+}
+
+/// Octets in lowercase hexadecimal.
+pub fn hexadecimal(octets: &[u8]) -> String {
+    const DIGITS: [char; 16] =
+        ['0', '1', '2', '3', '4', '5', '6', '7', '8', '9', 'a', 'b', 'c', 'd', 'e', 'f'];
+    let digit = |four_bits: u8| DIGITS[usize::from(four_bits)];
+    octets.iter().flat_map(|octet| [digit(octet / 16), digit(octet % 16)]).collect()
+}
+
+/// Runs one record and gives what is printed for it.
+fn run_record(station: &mut Station, record: &Record) -> String {
+    match record {
+        Record::Setup { identity, list } => {
+            let (answer, fresh) = Station::setup(identity, list);
+            *station = fresh;
+            line(answer)
+        }
+        Record::Clock { reading } => line(station.clock(*reading)),
+        Record::Log { reading, logging } => line(station.log(*reading, logging)),
+        Record::Frame { reading, destination, source, octets } => {
+            line(station.frame(*reading, destination, source, octets))
+        }
+        Record::Report { reading, console, kind, buffer, fill } => {
+            let mut lent = vec![*fill; *buffer];
+            line(station.report(*reading, console, *kind, &mut lent)) + &buffer_line(&lent)
+        }
+        Record::Roam { reading, list } => line(station.roam(*reading, list)),
+        Record::Change { reading, list } => line(station.change_network(*reading, list)),
+        Record::Write { buffer, fill, kind, dialog, wanted } => {
+            let mut lent = vec![*fill; *buffer];
+            let written = write_request(&mut lent, *kind, *dialog, wanted);
+            line(written.map(Answer::Length)) + &buffer_line(&lent)
+        }
+        Record::Read { destination, octets } => list_report(destination, octets),
+    }
+}
+
+/// What `replay` prints. "A record that is cut, unknown, or has a field out of the range given here
+/// prints `trace refused at P`, P the record's first octet, and ends the run; so does input past 262,144
+/// octets, after the records that are whole. Calls before any setup go to the gate that a setup with an
+/// empty identity and no console yields."
+pub fn replay(input: &[u8]) -> String {
+    let within = &input[..input.len().min(LONGEST_TRACE)];
+    let mut station = Station::without_requesters();
+    let mut printed = String::new();
+    let mut at = 0;
+    while at < within.len() {
+        let Some((record, length)) = read_record(&within[at..]) else {
+            return printed + &format!("trace refused at {at}\n");
+        };
+        printed += &run_record(&mut station, &record);
+        at += length;
+    }
+    if input.len() > LONGEST_TRACE {
+        printed += &format!("trace refused at {at}\n");
+    }
+    printed
+}

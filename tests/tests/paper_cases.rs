@@ -1,0 +1,43 @@
+//! Document 01's "Rollover and edge cases" and the program's example, against values worked out by hand.
+
+use differential::cases::{cases, Input};
+use differential::clock::{age, is_late, time_units};
+use differential::listing::{list_report_input, list_request};
+use differential::trace::replay;
+
+#[test]
+fn every_case_prints_what_the_paper_says() {
+    for case in cases() {
+        let printed = match &case.input {
+            Input::Frame(octets) => list_request(octets),
+            Input::Report(octets) => list_report_input(octets),
+            Input::Trace(records) => replay(&records.concat()),
+        };
+        assert_eq!(printed, case.printed, "{}", case.title);
+    }
+}
+
+#[test]
+fn ages_cross_the_rollover() {
+    assert_eq!(age(10, 4_294_967_290), 16);
+    assert_eq!(age(9, 10), 4_294_967_295);
+    assert_eq!(age(10, 10), 0);
+}
+
+#[test]
+fn milliseconds_become_time_units() {
+    let expected = [(0, 0), (1, 0), (2, 1), (16, 15), (67_107, 65_534), (67_108, 65_535), (67_109, 65_535)];
+    for (milliseconds, units) in expected {
+        assert_eq!(time_units(milliseconds), units);
+    }
+    assert_eq!(time_units(4_294_967_295), 65_535);
+}
+
+#[test]
+fn a_diagnostic_is_late_after_its_timeout_and_not_at_it() {
+    assert!(!is_late(704, 4_294_966_000, 2));
+    assert!(is_late(705, 4_294_966_000, 2));
+    assert!(!is_late(5, 5, 0));
+    assert!(is_late(6, 5, 0));
+    assert!(is_late(4, 5, 65_535));
+}
