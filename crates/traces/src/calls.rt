@@ -69,7 +69,7 @@ fn fields(s: &[u8], at: usize) -> usize
     at + 1
 }
 
-pub fn reading_at(s: &[u8], at: usize) -> Milliseconds {
+fn milliseconds_at(s: &[u8], at: usize) -> Milliseconds {
     if s.len() <= at {
         return Milliseconds(0);
     }
@@ -121,6 +121,11 @@ pub fn addresses_at(s: &[u8], from: usize) -> [[u8; 6]; 255] {
     list
 }
 
+// The reading that is the first field of a record.
+pub fn reading_at(s: &[u8], at: usize) -> Milliseconds {
+    milliseconds_at(s, fields(s, at))
+}
+
 pub fn setup_at(s: &[u8], at: usize) -> SetupCall {
     let at = fields(s, at);
     let to = at + 2 + (pair_at(s, at) as usize);
@@ -142,7 +147,7 @@ pub fn transition_at(s: &[u8], at: usize) -> Transition {
         reason: octet(s, at + 25),
         result: pair_at(s, at + 26),
         signals: signals_at(s, at + 28),
-        departure: reading_at(s, at + 32),
+        departure: milliseconds_at(s, at + 32),
     }
 }
 
@@ -150,7 +155,7 @@ pub fn frame_call_at(s: &[u8], at: usize) -> FrameCall {
     let at = fields(s, at);
     let from = at + 18;
     FrameCall {
-        reading: reading_at(s, at),
+        reading: milliseconds_at(s, at),
         destination: address_at(s, at + 4),
         source: address_at(s, at + 10),
         from,
@@ -161,7 +166,7 @@ pub fn frame_call_at(s: &[u8], at: usize) -> FrameCall {
 pub fn report_call_at(s: &[u8], at: usize) -> ReportCall {
     let at = fields(s, at);
     ReportCall {
-        reading: reading_at(s, at),
+        reading: milliseconds_at(s, at),
         requester: address_at(s, at + 4),
         kind: kind_of(octet(s, at + 10)),
         length: pair_at(s, at + 11),
@@ -172,7 +177,7 @@ pub fn report_call_at(s: &[u8], at: usize) -> ReportCall {
 pub fn move_at(s: &[u8], at: usize) -> MoveCall {
     let at = fields(s, at);
     MoveCall {
-        reading: reading_at(s, at),
+        reading: milliseconds_at(s, at),
         count: octet(s, at + 4),
         list: at + 5,
     }
