@@ -148,7 +148,7 @@ fn answer_of(w: Written) -> Answer {
 
 fn write_into(s: &[u8], c: WriterCall, buf: &mut [u8]) {
     let kind = c.kind;
-    let e = elements_at(s, c.elements, kind, c.count);
+    let e = elements_at(s, kind, c.count, c.elements);
     let elements = e.elements;
     let w = write_request(kind, c.dialog, elements, c.count as usize, buf);
     print_answer(answer_of(w));

@@ -8,6 +8,9 @@ use octets::size;
 use requests::Element;
 use subelements::Condition;
 use subelements::walk_conditions;
+ghost use mathlib.Core.Path.{_≡_};
+ghost use lib.ListN.{set};
+ghost use Rattle.traces.specs.Elements.{kindOf, noElement, refusedElement, conditionEnd, conditionsEnd, badValue, limitOf, timeoutOf, elementAt, withElement, elementsAt};
 
 // One element, and where it ends; 0: refused.
 pub struct Recorded {
@@ -22,14 +25,18 @@ pub struct Elements {
 }
 
 // Kind 0 and action 0 are an event's.
-pub fn kind_of(number: u8) -> Kind {
+pub fn kind_of(number: u8) -> Kind
+    ensures { λ r. ⌜ r ≡ kindOf number ⌝ }
+{
     if number == 0 {
         return Kind::Event;
     }
     Kind::Diagnostic
 }
 
-fn no_element() -> Element {
+fn no_element() -> Element
+    ensures { λ r. ⌜ r ≡ noElement ⌝ }
+{
     Element {
         token: 0,
         ty: 0,
@@ -43,7 +50,9 @@ fn no_element() -> Element {
     }
 }
 
-fn refused() -> Recorded {
+fn refused() -> Recorded
+    ensures { λ r. ⌜ r ≡ refusedElement ⌝ }
+{
     Recorded {
         end: 0,
         element: no_element(),
@@ -51,7 +60,9 @@ fn refused() -> Recorded {
 }
 
 // A condition whose ID is not below the least one.
-fn condition_end(s: &[u8], at: usize, least: usize) -> usize {
+fn condition_end(s: &[u8], at: usize, least: usize) -> usize
+    ensures { λ r. ⌜ r ≡ conditionEnd (now (s .entry)) at least ⌝ }
+{
     let id = size(s, at);
     if id < least {
         return 0;
@@ -63,7 +74,9 @@ fn condition_end(s: &[u8], at: usize, least: usize) -> usize {
 }
 
 // So many conditions with rising IDs.
-fn conditions_end(s: &[u8], from: usize, count: u8) -> usize {
+fn conditions_end(s: &[u8], from: usize, count: u8) -> usize
+    ensures { λ r. ⌜ r ≡ conditionsEnd (now (s .entry)) count from 0 ⌝ }
+{
     let mut at = from;
     let mut least: usize = 0;
     let mut i: u8 = 0;
@@ -80,21 +93,27 @@ fn conditions_end(s: &[u8], from: usize, count: u8) -> usize {
 }
 
 // A limit is below 256.
-fn bad_value(kind: Kind, value: u16) -> bool {
+fn bad_value(kind: Kind, value: u16) -> bool
+    ensures { λ r. ⌜ r ≡ badValue kind value ⌝ }
+{
     match kind {
         Kind::Event => 255 < value,
         Kind::Diagnostic => false,
     }
 }
 
-fn limit_of(kind: Kind, value: u16) -> u8 {
+fn limit_of(kind: Kind, value: u16) -> u8
+    ensures { λ r. ⌜ r ≡ limitOf kind value ⌝ }
+{
     match kind {
         Kind::Event => (value % 256) as u8,
         Kind::Diagnostic => 0,
     }
 }
 
-fn timeout_of(kind: Kind, value: u16) -> u16 {
+fn timeout_of(kind: Kind, value: u16) -> u16
+    ensures { λ r. ⌜ r ≡ timeoutOf kind value ⌝ }
+{
     match kind {
         Kind::Event => 0,
         Kind::Diagnostic => value,
@@ -102,7 +121,9 @@ fn timeout_of(kind: Kind, value: u16) -> u16 {
 }
 
 // The element at a position: token, type, limit or timeout, conditions.
-fn element_at(s: &[u8], at: usize, kind: Kind) -> Recorded {
+fn element_at(s: &[u8], kind: Kind, at: usize) -> Recorded
+    ensures { λ r. ⌜ r ≡ elementAt (now (s .entry)) kind at ⌝ }
+{
     if s.len() <= at {
         return refused();
     }
@@ -136,30 +157,41 @@ fn element_at(s: &[u8], at: usize, kind: Kind) -> Recorded {
     }
 }
 
-// With an element more, which is kept where it is one of the first eight.
-fn with_element(w: Elements, i: u8, r: Recorded) -> Elements {
-    let mut elements = w.elements;
+// With an element in its place, where it is one of the first eight.
+fn keep(elements: [Element; 8], i: u8, element: Element) -> [Element; 8]
+    ensures { λ r. ⌜ r ≡ set elements i element ⌝ }
+{
     let place = i as usize;
-    let element = r.element;
-    if place < 8 {
-        elements[place] = element;
+    let mut elements = elements;
+    if 8 <= place {
+        return elements;
     }
+    elements[place] = element;
+    elements
+}
+
+fn with_element(w: Elements, i: u8, r: Recorded) -> Elements
+    ensures { λ n. ⌜ n ≡ withElement w i r ⌝ }
+{
+    let elements = w.elements;
+    let element = r.element;
     Elements {
         end: r.end,
-        elements,
+        elements: keep(elements, i, element),
     }
 }
 
 // So many elements from a position on.
-pub fn elements_at(s: &[u8], from: usize, kind: Kind, count: u8) -> Elements {
+pub fn elements_at(s: &[u8], kind: Kind, count: u8, from: usize) -> Elements
+    ensures { λ r. ⌜ r ≡ elementsAt (now (s .entry)) kind count from ⌝ }
+{
     let mut w = Elements {
         end: from,
         elements: [no_element(); 8],
     };
     let mut i: u8 = 0;
     while i < count {
-        let r = element_at(s, w.end, kind);
-        w = with_element(w, i, r);
+        w = with_element(w, i, element_at(s, kind, w.end));
         i += 1;
     }
     w

@@ -1,4 +1,4 @@
-// Where each record ends.
+// Where each record ends; 0: refused.
 use crate::elements::elements_at;
 use crate::elements::kind_of;
 use octets::octet;
@@ -7,14 +7,15 @@ use octets::size;
 ghost use mathlib.Core.Path.{_≡_};
 ghost use Prim.Native.Nat.{_+_, _≤_, _<_};
 ghost use lib.ListN.{length};
+ghost use Rattle.traces.specs.Places.{behind as Places·behind, badLength, octetsEnd, listEnd};
+ghost use Rattle.traces.specs.Records.{reportCallEnd, goodAction, writerCallEnd, fieldsEnd, recordEnd};
 
 // No length in a record is over this.
-const MOST: usize = 4096;
+const MOST: u16 = 4096;
 
-// Where so many octets from a position on end; 0 where they pass the end of the input, and behind
-// what is refused.
+// Where so many octets from a position on end; behind what is refused, 0.
 pub fn behind(s: &[u8], at: usize, n: usize) -> usize
-    ensures { λ r. ⌜ (0 < r → at + n ≤ length (now (s .entry))) ⌝ }
+    ensures { λ r. ⌜ r ≡ Places·behind (now (s .entry)) at n ⌝ }
 {
     if at == 0 {
         return 0;
@@ -28,64 +29,57 @@ pub fn behind(s: &[u8], at: usize, n: usize) -> usize
     at + n
 }
 
-// Is the length at a position one that a record may have?
-fn bad_length(s: &[u8], at: usize) -> bool {
-    MOST < (pair_at(s, at) as usize)
+fn bad_length(s: &[u8], at: usize) -> bool
+    ensures { λ r. ⌜ r ≡ badLength (now (s .entry)) at ⌝ }
+{
+    MOST < pair_at(s, at)
 }
 
 // A length and so many octets.
-fn octets_end(s: &[u8], at: usize) -> usize {
-    let from = behind(s, at, 2);
-    if from == 0 {
-        return 0;
-    }
+fn octets_end(s: &[u8], at: usize) -> usize
+    ensures { λ r. ⌜ r ≡ octetsEnd (now (s .entry)) at ⌝ }
+{
     if bad_length(s, at) {
         return 0;
     }
-    behind(s, from, pair_at(s, at) as usize)
+    behind(s, behind(s, at, 2), pair_at(s, at) as usize)
 }
 
 // A number of addresses and so many of them.
-fn list_end(s: &[u8], at: usize) -> usize {
-    let from = behind(s, at, 1);
-    if from == 0 {
-        return 0;
-    }
-    behind(s, from, 6 * size(s, at))
+fn list_end(s: &[u8], at: usize) -> usize
+    ensures { λ r. ⌜ r ≡ listEnd (now (s .entry)) at ⌝ }
+{
+    behind(s, behind(s, at, 1), 6 * size(s, at))
 }
 
-// A report call's fields: reading, requester, kind, buffer length, filling octet.
+// The fields of a report call.
 fn report_call_end(s: &[u8], at: usize) -> usize
     requires { ⌜ at ≤ length (now s) ⌝ }
+    ensures { λ r. ⌜ r ≡ reportCallEnd (now (s .entry)) at ⌝ }
 {
-    let end = behind(s, at, 14);
-    if end == 0 {
-        return 0;
-    }
     if 1 < octet(s, at + 10) {
         return 0;
     }
     if bad_length(s, at + 11) {
         return 0;
     }
-    end
+    behind(s, at, 14)
 }
 
-fn good_action(action: u8) -> bool {
-    match action {
-        0 | 2 => true,
-        _ => false,
-    }
-}
-
-// A request writer's fields: buffer length, filling octet, action, dialog token, elements.
-fn writing_end(s: &[u8], at: usize) -> usize
-    requires { ⌜ at ≤ length (now s) ⌝ }
+fn good_action(action: u8) -> bool
+    ensures { λ r. ⌜ r ≡ goodAction action ⌝ }
 {
-    let from = behind(s, at, 6);
-    if from == 0 {
-        return 0;
+    if action == 0 {
+        return true;
     }
+    action == 2
+}
+
+// The fields of a request writer's call, with its elements.
+fn writer_call_end(s: &[u8], at: usize) -> usize
+    requires { ⌜ at ≤ length (now s) ⌝ }
+    ensures { λ r. ⌜ r ≡ writerCallEnd (now (s .entry)) at ⌝ }
+{
     if bad_length(s, at) {
         return 0;
     }
@@ -93,12 +87,14 @@ fn writing_end(s: &[u8], at: usize) -> usize
     if !good_action(action) {
         return 0;
     }
-    elements_at(s, from, kind_of(action), octet(s, at + 5)).end
+    let w = elements_at(s, kind_of(action), octet(s, at + 5), behind(s, at, 6));
+    w.end
 }
 
 // The fields of a record of a number.
 fn fields_end(s: &[u8], number: u8, at: usize) -> usize
     requires { ⌜ at ≤ length (now s) ⌝ }
+    ensures { λ r. ⌜ r ≡ fieldsEnd (now (s .entry)) number at ⌝ }
 {
     match number {
         0 => list_end(s, octets_end(s, at)),
@@ -106,15 +102,18 @@ fn fields_end(s: &[u8], number: u8, at: usize) -> usize
         2 => behind(s, at, 36),
         3 => octets_end(s, behind(s, at, 16)),
         4 => report_call_end(s, at),
-        5 | 6 => list_end(s, behind(s, at, 4)),
-        16 => writing_end(s, at),
+        5 => list_end(s, behind(s, at, 4)),
+        6 => list_end(s, behind(s, at, 4)),
+        16 => writer_call_end(s, at),
         17 => octets_end(s, behind(s, at, 6)),
         _ => 0,
     }
 }
 
 // Where the record at a position ends; 0 where it is cut, unknown, or has a field out of its range.
-pub fn record_end(s: &[u8], at: usize) -> usize {
+pub fn record_end(s: &[u8], at: usize) -> usize
+    ensures { λ r. ⌜ r ≡ recordEnd (now (s .entry)) at ⌝ }
+{
     if s.len() <= at {
         return 0;
     }
