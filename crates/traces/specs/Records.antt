@@ -72,10 +72,14 @@ fieldsOf s at = if leb (length s) at then length s else at + 1
 unfoldable pub millisecondsAt : List ℕ → ℕ → Milliseconds
 millisecondsAt s at = record { 0 = pairAt s at + 65536 * pairAt s (at + 2) }
 
--- so many octets, one behind the other
-unfoldable pub octetsAt : List ℕ → ℕ → ℕ → List ℕ
-octetsAt s at zero = []
-octetsAt s at (suc n) = getD s at 0 ∷ octetsAt s (at + 1) n
+-- the nine octets of a time
+unfoldable pub timeAt : List ℕ → ℕ → List ℕ
+timeAt s at =
+    getD s at 0 ∷ getD s (at + 1) 0 ∷ getD s (at + 2) 0 ∷ getD s (at + 3) 0 ∷ getD s (at + 4) 0 ∷ getD s (at + 5) 0 ∷ getD s (at + 6) 0 ∷ getD s (at + 7) 0 ∷ getD s (at + 8) 0 ∷ []
+
+-- source RCPI, source RSNI, target RCPI, target RSNI
+unfoldable pub signalsAt : List ℕ → ℕ → List ℕ
+signalsAt s at = getD s at 0 ∷ getD s (at + 1) 0 ∷ getD s (at + 2) 0 ∷ getD s (at + 3) 0 ∷ []
 
 -- so many addresses, one behind the other
 unfoldable pub addressesAt : List ℕ → ℕ → ℕ → List (List ℕ)
@@ -90,12 +94,12 @@ setupFields s at =
 unfoldable pub transitionFields : List ℕ → ℕ → Transition
 transitionFields s at =
     record {
-      time = octetsAt s (at + 4) 9;
+      time = timeAt s (at + 4);
       source = addressAt s (at + 13);
       target = addressAt s (at + 19);
       reason = getD s (at + 25) 0;
       result = pairAt s (at + 26);
-      signals = octetsAt s (at + 28) 4;
+      signals = signalsAt s (at + 28);
       departure = millisecondsAt s (at + 32);
     }
 

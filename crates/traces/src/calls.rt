@@ -6,8 +6,10 @@ use octets::address_at;
 use octets::octet;
 use octets::pair_at;
 use units::Milliseconds;
+ghost use mathlib.Core.Path.{_≡_};
 ghost use Prim.Native.Nat.{_≤_};
 ghost use lib.ListN.{length};
+ghost use Rattle.traces.specs.Records.{fieldsOf, millisecondsAt, timeAt, signalsAt, addressesAt, setupFields, transitionFields, frameFields, reportFields, moveFields, writerFields, readerFields};
 
 // The identity stands from one position to another; behind it are a number of addresses, and they.
 pub struct SetupCall {
@@ -61,7 +63,7 @@ pub struct ReaderCall {
 
 // The position of a record's fields; past the end of the input, that end.
 fn fields(s: &[u8], at: usize) -> usize
-    ensures { λ r. ⌜ r ≤ length (now (s .entry)) ⌝ }
+    ensures { λ r. ⌜ (r ≡ fieldsOf (now (s .entry)) at) × (r ≤ length (now (s .entry))) ⌝ }
 {
     if s.len() <= at {
         return s.len();
@@ -69,14 +71,18 @@ fn fields(s: &[u8], at: usize) -> usize
     at + 1
 }
 
-fn milliseconds_at(s: &[u8], at: usize) -> Milliseconds {
+fn milliseconds_at(s: &[u8], at: usize) -> Milliseconds
+    ensures { λ r. ⌜ r ≡ millisecondsAt (now (s .entry)) at ⌝ }
+{
     if s.len() <= at {
         return Milliseconds(0);
     }
     Milliseconds((pair_at(s, at) as u32) + 65536 * (pair_at(s, at + 2) as u32))
 }
 
-fn signals_at(s: &[u8], at: usize) -> [u8; 4] {
+fn signals_at(s: &[u8], at: usize) -> [u8; 4]
+    ensures { λ r. ⌜ r ≡ signalsAt (now (s .entry)) at ⌝ }
+{
     if s.len() <= at {
         return [0; 4];
     }
@@ -88,7 +94,9 @@ fn signals_at(s: &[u8], at: usize) -> [u8; 4] {
     ]
 }
 
-fn time_at(s: &[u8], at: usize) -> [u8; 9] {
+fn time_at(s: &[u8], at: usize) -> [u8; 9]
+    ensures { λ r. ⌜ r ≡ timeAt (now (s .entry)) at ⌝ }
+{
     if s.len() <= at {
         return [0; 9];
     }
@@ -106,14 +114,14 @@ fn time_at(s: &[u8], at: usize) -> [u8; 9] {
 }
 
 // 255 addresses, one behind the other.
-pub fn addresses_at(s: &[u8], from: usize) -> [[u8; 6]; 255] {
+fn read_addresses(s: &[u8], from: usize) -> [[u8; 6]; 255]
+    requires { ⌜ from ≤ length (now s) ⌝ }
+    ensures { λ r. ⌜ r ≡ addressesAt (now (s .entry)) 255 from ⌝ }
+{
     let mut list = [[0u8; 6]; 255];
     let mut at = from;
     let mut i: usize = 0;
     while i < 255 {
-        if s.len() <= at {
-            return list;
-        }
         list[i] = address_at(s, at);
         at += 6;
         i += 1;
@@ -121,12 +129,26 @@ pub fn addresses_at(s: &[u8], from: usize) -> [[u8; 6]; 255] {
     list
 }
 
+// The addresses at a position, as many as a record can have.
+pub fn addresses_at(s: &[u8], from: usize) -> [[u8; 6]; 255]
+    ensures { λ r. ⌜ r ≡ addressesAt (now (s .entry)) 255 from ⌝ }
+{
+    if s.len() < from {
+        return read_addresses(s, s.len());
+    }
+    read_addresses(s, from)
+}
+
 // The reading that is the first field of a record.
-pub fn reading_at(s: &[u8], at: usize) -> Milliseconds {
+pub fn reading_at(s: &[u8], at: usize) -> Milliseconds
+    ensures { λ r. ⌜ r ≡ millisecondsAt (now (s .entry)) (fieldsOf (now (s .entry)) at) ⌝ }
+{
     milliseconds_at(s, fields(s, at))
 }
 
-pub fn setup_at(s: &[u8], at: usize) -> SetupCall {
+pub fn setup_at(s: &[u8], at: usize) -> SetupCall
+    ensures { λ r. ⌜ r ≡ setupFields (now (s .entry)) (fieldsOf (now (s .entry)) at) ⌝ }
+{
     let at = fields(s, at);
     let to = at + 2 + (pair_at(s, at) as usize);
     SetupCall {
@@ -138,7 +160,9 @@ pub fn setup_at(s: &[u8], at: usize) -> SetupCall {
 }
 
 // The transition of a logging record.
-pub fn transition_at(s: &[u8], at: usize) -> Transition {
+pub fn transition_at(s: &[u8], at: usize) -> Transition
+    ensures { λ r. ⌜ r ≡ transitionFields (now (s .entry)) (fieldsOf (now (s .entry)) at) ⌝ }
+{
     let at = fields(s, at);
     Transition {
         time: time_at(s, at + 4),
@@ -151,7 +175,9 @@ pub fn transition_at(s: &[u8], at: usize) -> Transition {
     }
 }
 
-pub fn frame_call_at(s: &[u8], at: usize) -> FrameCall {
+pub fn frame_call_at(s: &[u8], at: usize) -> FrameCall
+    ensures { λ r. ⌜ r ≡ frameFields (now (s .entry)) (fieldsOf (now (s .entry)) at) ⌝ }
+{
     let at = fields(s, at);
     let from = at + 18;
     FrameCall {
@@ -163,7 +189,9 @@ pub fn frame_call_at(s: &[u8], at: usize) -> FrameCall {
     }
 }
 
-pub fn report_call_at(s: &[u8], at: usize) -> ReportCall {
+pub fn report_call_at(s: &[u8], at: usize) -> ReportCall
+    ensures { λ r. ⌜ r ≡ reportFields (now (s .entry)) (fieldsOf (now (s .entry)) at) ⌝ }
+{
     let at = fields(s, at);
     ReportCall {
         reading: milliseconds_at(s, at),
@@ -174,7 +202,9 @@ pub fn report_call_at(s: &[u8], at: usize) -> ReportCall {
     }
 }
 
-pub fn move_at(s: &[u8], at: usize) -> MoveCall {
+pub fn move_at(s: &[u8], at: usize) -> MoveCall
+    ensures { λ r. ⌜ r ≡ moveFields (now (s .entry)) (fieldsOf (now (s .entry)) at) ⌝ }
+{
     let at = fields(s, at);
     MoveCall {
         reading: milliseconds_at(s, at),
@@ -183,7 +213,9 @@ pub fn move_at(s: &[u8], at: usize) -> MoveCall {
     }
 }
 
-pub fn writer_call_at(s: &[u8], at: usize) -> WriterCall {
+pub fn writer_call_at(s: &[u8], at: usize) -> WriterCall
+    ensures { λ r. ⌜ r ≡ writerFields (now (s .entry)) (fieldsOf (now (s .entry)) at) ⌝ }
+{
     let at = fields(s, at);
     WriterCall {
         length: pair_at(s, at),
@@ -195,7 +227,9 @@ pub fn writer_call_at(s: &[u8], at: usize) -> WriterCall {
     }
 }
 
-pub fn reader_call_at(s: &[u8], at: usize) -> ReaderCall {
+pub fn reader_call_at(s: &[u8], at: usize) -> ReaderCall
+    ensures { λ r. ⌜ r ≡ readerFields (now (s .entry)) (fieldsOf (now (s .entry)) at) ⌝ }
+{
     let at = fields(s, at);
     let from = at + 8;
     ReaderCall {

@@ -1,109 +1,95 @@
+-- `traces::places::fields_end` meets its contract: the number of the record picks its fields.
+-- Assumes nothing.
+use borrow.Author.Tests.{ne-eqb}
+use Rattle.laws.specs.Choice.{if_then_else_}
+use Rattle.traces.specs.Records.{fieldsEnd}
 use borrow.Author.Needs.{needs}
 use Rattle.traces.proofs.places.fields_end.Statement.{statement}
 use Rattle.traces.proofs.places.fields_end.Tie as tie
-use Rattle.traces.proofs.places.fields_end.Reads as reads
-use Rattle.traces.proofs.places.fields_end.Lts as lts
-use Rattle.traces.proofs.places.behind.Reads as behind-reads
-use Rattle.traces.proofs.places.list_end.Reads as list-end-reads
-use Rattle.traces.proofs.places.octets_end.Reads as octets-end-reads
-use Rattle.traces.proofs.places.report_call_end.Reads as report-call-end-reads
-use Rattle.traces.proofs.places.writer_call_end.Reads as writer-call-end-reads
 
--- src/places.rt:100:26
 octets-end-requires : tie.Need-octets-end-requires
 octets-end-requires c κs = search needs
 
--- src/places.rt:100:14
 list-end-requires : tie.Need-list-end-requires
 list-end-requires c κs = search needs
 
--- src/places.rt:101:14
 behind-requires : tie.Need-behind-requires
 behind-requires c κs = search needs
 
--- src/places.rt:102:14
 behind-requires-2 : tie.Need-behind-requires-2
 behind-requires-2 c κs = search needs
 
--- src/places.rt:103:28
 behind-requires-3 : tie.Need-behind-requires-3
 behind-requires-3 c κs = search needs
 
--- src/places.rt:103:14
 octets-end-requires-2 : tie.Need-octets-end-requires-2
 octets-end-requires-2 c κs = search needs
 
--- src/places.rt:104:14
 report-call-end-requires : tie.Need-report-call-end-requires
 report-call-end-requires c κs = search needs
 
--- src/places.rt:105:26
 behind-requires-4 : tie.Need-behind-requires-4
 behind-requires-4 c κs = search needs
 
--- src/places.rt:105:14
 list-end-requires-2 : tie.Need-list-end-requires-2
 list-end-requires-2 c κs = search needs
 
--- src/places.rt:106:26
 behind-requires-5 : tie.Need-behind-requires-5
 behind-requires-5 c κs = search needs
 
--- src/places.rt:106:14
 list-end-requires-3 : tie.Need-list-end-requires-3
 list-end-requires-3 c κs = search needs
 
--- src/places.rt:107:15
 writer-call-end-requires : tie.Need-writer-call-end-requires
 writer-call-end-requires c κs = search needs
 
--- src/places.rt:108:29
 behind-requires-6 : tie.Need-behind-requires-6
 behind-requires-6 c κs = search needs
 
--- src/places.rt:108:15
 octets-end-requires-3 : tie.Need-octets-end-requires-3
 octets-end-requires-3 c κs = search needs
 
--- src/places.rt:95:1
 returns : tie.Need-returns
-returns c = ?
+unfolding fieldsEnd if_then_else_
+returns c = rw (c .before .before .match .keys1, ← c .before .octets-end .ensures) (c .list-end .ensures)
 
--- src/places.rt:95:1
 returns-2 : tie.Need-returns-2
-returns-2 c = ?
+unfolding fieldsEnd if_then_else_
+returns-2 c = rw (c .before .match .keys2) (c .behind .ensures)
 
--- src/places.rt:95:1
 returns-3 : tie.Need-returns-3
-returns-3 c = ?
+unfolding fieldsEnd if_then_else_
+returns-3 c = rw (c .before .match .keys3) (c .behind2 .ensures)
 
--- src/places.rt:95:1
 returns-4 : tie.Need-returns-4
-returns-4 c = ?
+unfolding fieldsEnd if_then_else_
+returns-4 c = rw (c .before .before .match .keys4, ← c .before .behind3 .ensures) (c .octets-end2 .ensures)
 
--- src/places.rt:95:1
 returns-5 : tie.Need-returns-5
-returns-5 c = ?
+unfolding fieldsEnd if_then_else_
+returns-5 c = rw (c .before .match .keys5) (c .report-call-end .ensures)
 
--- src/places.rt:95:1
 returns-6 : tie.Need-returns-6
-returns-6 c = ?
+unfolding fieldsEnd if_then_else_
+returns-6 c = rw (c .before .before .match .keys6, ← c .before .behind4 .ensures) (c .list-end2 .ensures)
 
--- src/places.rt:95:1
 returns-7 : tie.Need-returns-7
-returns-7 c = ?
+unfolding fieldsEnd if_then_else_
+returns-7 c = rw (c .before .before .match .keys7, ← c .before .behind5 .ensures) (c .list-end3 .ensures)
 
--- src/places.rt:95:1
 returns-8 : tie.Need-returns-8
-returns-8 c = ?
+unfolding fieldsEnd if_then_else_
+returns-8 c = rw (c .before .match .keys8) (c .writer-call-end .ensures)
 
--- src/places.rt:95:1
 returns-9 : tie.Need-returns-9
-returns-9 c = ?
+unfolding fieldsEnd if_then_else_
+returns-9 c = rw (c .before .before .match .keys9, ← c .before .behind6 .ensures) (c .octets-end3 .ensures)
 
--- src/places.rt:95:1
 returns-10 : tie.Need-returns-10
-returns-10 c = ?
+unfolding fieldsEnd if_then_else_
+returns-10 c =
+    let r = c .match .rest in
+    rw (ne-eqb _ 0 (r .0 .0 .0 .0 .0 .0 .0 .0 .1), ne-eqb _ 1 (r .0 .0 .0 .0 .0 .0 .0 .1), ne-eqb _ 2 (r .0 .0 .0 .0 .0 .0 .1), ne-eqb _ 3 (r .0 .0 .0 .0 .0 .1), ne-eqb _ 4 (r .0 .0 .0 .0 .1), ne-eqb _ 5 (r .0 .0 .0 .1), ne-eqb _ 6 (r .0 .0 .1), ne-eqb _ 16 (r .0 .1), ne-eqb _ 17 (r .1))
 
 pub fields-end-spec : {M : Type 1} → statement M
 fields-end-spec =

@@ -1,30 +1,28 @@
+-- `traces::places::record_end` meets its contract.
+-- Assumes nothing.
+use borrow.Author.Tests.{le-leb, lt-leb}
+use Rattle.laws.specs.Choice.{if_then_else_}
+use Rattle.traces.specs.Records.{recordEnd}
 use borrow.Author.Needs.{needs}
 use Rattle.traces.proofs.places.record_end.Statement.{statement}
 use Rattle.traces.proofs.places.record_end.Tie as tie
-use Rattle.traces.proofs.places.record_end.Reads as reads
-use Rattle.traces.proofs.places.record_end.Lts as lts
-use Rattle.octets.proofs.octet.Reads as octet-reads
-use Rattle.traces.proofs.places.fields_end.Reads as fields-end-reads
 
--- src/places.rt:118:9
 returns : tie.Need-returns
-returns c = ?
+unfolding recordEnd if_then_else_
+returns c = rw (le-leb _ _ (c .if1 .taken))
 
--- src/places.rt:120:19
 octet-requires : tie.Need-octet-requires
 octet-requires c κs = search needs
 
--- src/places.rt:120:33
 add-fields-end : tie.Need-add-fields-end
 add-fields-end c = search needs
 
--- src/places.rt:120:5
 fields-end-requires : tie.Need-fields-end-requires
 fields-end-requires c κs = search needs
 
--- src/places.rt:114:1
 returns-2 : tie.Need-returns-2
-returns-2 c = ?
+unfolding recordEnd if_then_else_
+returns-2 c = rw (lt-leb _ _ (c .before .before .if1 .left), ← c .before .octet .ensures) (c .fields-end .ensures)
 
 pub record-end-spec : {M : Type 1} → statement M
 record-end-spec =
