@@ -1,10 +1,10 @@
--- `report::print` meets its contract.
+-- `printing::print` meets its contract.
 -- Assumes nothing.
 use mathlib.Core.Path.{sym}
 use lib.Seq.{length-take-le}
 use borrow.Author.Needs.{needs}
-use Rattle.report.proofs.print.Statement.{statement}
-use Rattle.report.proofs.print.Tie as tie
+use Rattle.printing.proofs.print.Statement.{statement}
+use Rattle.printing.proofs.print.Tie as tie
 
 slice-aggregate-write-all : tie.Need-slice-aggregate-write-all
 slice-aggregate-write-all c = sym (length-take-le _ _ (c .before .if1 .taken))

@@ -1,12 +1,12 @@
--- `report::print_elements` meets its contract. A step that is not refused moves on.
+-- `printing::print_elements` meets its contract. A step that is not refused moves on.
 -- Assumes nothing.
 use Prim.Native.Nat.{_-_}
 use native.Mathlib.Omega.{arith}
 use lib.ListN.{length}
 use Rattle.report_reader.proofs.Laws.{goes-on}
 use borrow.Author.Needs.{needs}
-use Rattle.report.proofs.print_elements.Statement.{statement}
-use Rattle.report.proofs.print_elements.Tie as tie
+use Rattle.printing.proofs.print_elements.Statement.{statement}
+use Rattle.printing.proofs.print_elements.Tie as tie
 
 abbrev Inv-loop : tie.InvT-loop
 Inv-loop s kind cursor₀ cursor = Unit {0}

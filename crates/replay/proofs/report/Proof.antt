@@ -1,0 +1,36 @@
+-- `replay::report` meets its contract.
+-- Assumes nothing.
+use mathlib.Core.Path.{sym}
+use lib.Seq.{length-take-le}
+use borrow.Author.Needs.{needs}
+use Rattle.replay.proofs.report.Statement.{statement}
+use Rattle.replay.proofs.report.Tie as tie
+
+report-call-at-requires : tie.Need-report-call-at-requires
+report-call-at-requires c κs = search needs
+
+within-requires : tie.Need-within-requires
+within-requires c κs = search needs
+
+array-borrow-prefix-buf : tie.Need-array-borrow-prefix-buf
+array-borrow-prefix-buf c = search needs
+
+slice-aggregate-report-into : tie.Need-slice-aggregate-report-into
+slice-aggregate-report-into c = sym (length-take-le _ _ (search needs))
+
+report-into-requires : tie.Need-report-into-requires
+report-into-requires c κs = search needs
+
+returns : tie.Need-returns
+returns c = search needs
+
+pub report-spec : {M : Type 1} → statement M
+report-spec =
+    tie.close
+    (tie.spec
+    report-call-at-requires
+    within-requires
+    array-borrow-prefix-buf
+    slice-aggregate-report-into
+    report-into-requires
+    returns)

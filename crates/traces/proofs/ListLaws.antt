@@ -1,0 +1,50 @@
+-- Laws of addresses that are read one behind the other: one more, and those past the end.
+-- Assumes nothing.
+use Prim.Native.Nat.{ℕ, zero, suc, _+_, _*_, _≤_, _<_}
+use mathlib.Core.Path.{_≡_, refl, sym, ap, _∙_}
+use mathlib.Core.List.{List, [], _∷_, _++_, append-nil}
+use native.Mathlib.Omega.{arith}
+use native.Mathlib.Numerals.{add-one}
+use lib.ListN.{length, getD, drop, set, drop-of-length-le, List·getD-eq-default}
+use Rattle.laws.proofs.Arrays.{fill-next}
+use Rattle.octets.specs.Addresses.{addressAt}
+use Rattle.traces.specs.Records.{addressesAt}
+
+module _ (s : List ℕ) where
+  pub addresses-snoc : (n at : ℕ) → addressesAt s (suc n) at ≡ addressesAt s n at ++ (addressAt s (at + 6 * n) ∷ [])
+  unfolding addressesAt
+  addresses-snoc zero at = let e : at ≡ at + 6 * 0 = omega arith in ap (λ (k : ℕ). addressAt s k ∷ []) e
+  addresses-snoc (suc n) at =
+      let e : at + 6 + 6 * n ≡ at + 6 * suc n = omega arith in
+      ap {B = List (List ℕ)} (λ r. addressAt s at ∷ r) (addresses-snoc n (at + 6) ∙ ap (λ (k : ℕ). addressesAt s n (at + 6) ++ (addressAt s k ∷ [])) e)
+
+  pub addresses-length : (n at : ℕ) → length (addressesAt s n at) ≡ n
+  unfolding addressesAt
+  addresses-length zero at = refl
+  addresses-length (suc n) at = ap suc (addresses-length n (at + 6))
+
+  -- past the end every octet is 0, wherever
+  address-past : (a b : ℕ) → length s ≤ a → length s ≤ b → addressAt s a ≡ addressAt s b
+  unfolding addressAt
+  address-past a b ha hb =
+      rw (past a ha, past (a + 1) (omega arith), past (a + 2) (omega arith), past (a + 3) (omega arith), past (a + 4) (omega arith), past (a + 5) (omega arith), past b hb, past (b + 1) (omega arith), past (b + 2) (omega arith), past (b + 3) (omega arith), past (b + 4) (omega arith), past (b + 5) (omega arith))
+    where
+      past : (k : ℕ) → length s ≤ k → getD s k 0 ≡ 0
+      past k h = List·getD-eq-default s 0 {n = k} h
+
+  pub addresses-past : (n a b : ℕ) → length s ≤ a → length s ≤ b → addressesAt s n a ≡ addressesAt s n b
+  unfolding addressesAt
+  addresses-past zero a b ha hb = refl
+  addresses-past (suc n) a b ha hb =
+      let t : addressesAt s n (a + 6) ≡ addressesAt s n (b + 6) = addresses-past n (a + 6) (b + 6) (omega arith) (omega arith) in
+      rw (address-past a b ha hb, t)
+
+  -- the loop that reads them: the first i are read
+  module _ (blank list : List (List ℕ)) (i from : ℕ) (is : list ≡ addressesAt s i from ++ drop i blank) where
+    pub addresses-next : (at : ℕ) (x : List ℕ) → i < length blank → at ≡ from + 6 * i → x ≡ addressAt s at → set list i x ≡ addressesAt s (i + 1) from ++ drop (i + 1) blank
+    addresses-next at x h e v =
+        let y : x ≡ addressAt s (from + 6 * i) = v ∙ ap (addressAt s) e in
+        rw (is, y, add-one, addresses-snoc i from) (fill-next (addressesAt s i from) blank [] i (addresses-length i from) h (addressAt s (from + 6 * i)))
+
+    pub addresses-all : length blank ≤ i → list ≡ addressesAt s i from
+    addresses-all h = is ∙ rw (drop-of-length-le blank {i = i} h) (append-nil (addressesAt s i from))

@@ -1,0 +1,48 @@
+-- Laws of the walks over conditions and elements: one turn, and the end.
+-- Assumes nothing.
+use Prim.Native.Nat.{ℕ, zero, suc, _+_, _-_, _≤_, _<_}
+use mathlib.Core.Path.{_≡_, refl, sym, ap, _∙_}
+use mathlib.Core.List.{List, [], _∷_}
+use lib.Dec.{eqb}
+use lib.ListN.{length, getD, set}
+use native.Mathlib.Omega.{arith}
+use borrow.Author.Tests.{eq-eqb, ne-eqb, lt-ltb}
+use Rattle.laws.specs.Choice.{if_then_else_}
+use Rattle.octets.specs.declared.numbers.Kind.{Kind}
+use Rattle.traces.specs.declared.elements.Elements.{Elements}
+use Rattle.traces.specs.Places.{behind}
+use Rattle.traces.specs.Elements.{conditionEnd, conditionsEnd, elementAt, withElement, moreElements}
+
+-- nothing ends past the end of the input
+pub behind-past : (s : List ℕ) (at n : ℕ) → length s < at + n → behind s at n ≡ 0
+unfolding behind if_then_else_
+behind-past s zero n h = refl
+behind-past s (suc at) n h = rw (ne-eqb (suc at) 0 (λ (e : suc at ≡ 0). omega arith), lt-ltb (length s) (suc at + n) h)
+
+module _ (s : List ℕ) (n k at least : ℕ) (e : n ≡ suc k) where
+  pub conditions-next : (next : ℕ) → next ≡ conditionEnd s at least → (next ≡ 0 → ⊥) → conditionsEnd s n at least ≡ conditionsEnd s k next (getD s at 0 + 1)
+  unfolding conditionsEnd if_then_else_
+  conditions-next next is ne = rw (e, ← is, ne-eqb next 0 ne)
+
+  pub conditions-stop : (next : ℕ) → next ≡ conditionEnd s at least → next ≡ 0 → conditionsEnd s n at least ≡ 0
+  unfolding conditionsEnd if_then_else_
+  conditions-stop next is z = rw (e, ← is, eq-eqb next 0 z)
+
+pub conditions-done : (s : List ℕ) (n at least : ℕ) → n ≡ 0 → conditionsEnd s n at least ≡ at
+unfolding conditionsEnd
+conditions-done s n at least z = rw z
+
+module _ (s : List ℕ) (kind : Kind) (n i : ℕ) (w : Elements) where
+  pub elements-next : (k : ℕ) → n ≡ suc k → moreElements s kind n i w ≡ moreElements s kind k (i + 1) (withElement w i (elementAt s kind (w .end)))
+  unfolding moreElements
+  elements-next k e = rw e
+
+  pub elements-done : n ≡ 0 → moreElements s kind n i w ≡ w
+  unfolding moreElements
+  elements-done z = rw z
+
+-- a store past the end changes nothing
+pub set-past : {A : Type 0} (l : List A) (i : ℕ) (x : A) → length l ≤ i → set l i x ≡ l
+set-past [] i x h = refl
+set-past (y ∷ ys) zero x h = absurd (let z : suc (length ys) ≤ 0 = h in omega arith)
+set-past {A} (y ∷ ys) (suc i) x h = ap {B = List A} (λ r. y ∷ r) (set-past ys i x (omega arith))

@@ -1,0 +1,23 @@
+-- `traces::elements::limit_of` meets its contract.
+-- Assumes nothing.
+use borrow.Author.Needs.{needs}
+use Rattle.traces.proofs.elements.limit_of.Statement.{statement}
+use Rattle.traces.proofs.elements.limit_of.Tie as tie
+
+enum-told : tie.Need-enum-told
+enum-told c = search needs
+
+cast-result : tie.Need-cast-result
+cast-result c = search needs
+
+enum-told-2 : tie.Need-enum-told-2
+enum-told-2 c = search needs
+
+returns : tie.Need-returns
+returns c = rw (c .enum-told .given .1)
+
+returns-2 : tie.Need-returns-2
+returns-2 c = rw (c .enum-told2 .given .1)
+
+pub limit-of-spec : {M : Type 1} → statement M
+limit-of-spec = tie.close (tie.spec enum-told cast-result enum-told-2 returns returns-2)

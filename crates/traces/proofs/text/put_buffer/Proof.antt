@@ -1,0 +1,42 @@
+-- `traces::text::put_buffer` meets its contract: word by word.
+-- Assumes nothing.
+use Rattle.report_listing.proofs.Laws.{words-one, words-then}
+use Rattle.traces.specs.Lines.{bufferLine}
+use borrow.Author.Needs.{needs}
+use Rattle.traces.proofs.text.put_buffer.Statement.{statement}
+use Rattle.traces.proofs.text.put_buffer.Tie as tie
+
+slice-aggregate-put : tie.Need-slice-aggregate-put
+slice-aggregate-put c = search needs
+
+put-requires : tie.Need-put-requires
+put-requires c κs = search needs
+
+put-octets-requires : tie.Need-put-octets-requires
+put-octets-requires c κs = search needs
+
+slice-aggregate-put-2 : tie.Need-slice-aggregate-put-2
+slice-aggregate-put-2 c = search needs
+
+put-requires-2 : tie.Need-put-requires-2
+put-requires-2 c κs = search needs
+
+same-length : tie.Need-same-length
+same-length c = search needs
+
+returns : tie.Need-returns
+unfolding bufferLine
+returns c =
+    words-then _ _ _ _ _ _ _ _ (words-one _ _ _ _ _ (c .before .before .before .before .before .before .before .before .before .before .before .put .ensures)) (words-then _ _ _ _ _ _ _ _ (c .before .before .before .before .before .before .before .put-octets .ensures) (words-one _ _ _ _ _ (c .before .before .put2 .ensures)))
+
+pub put-buffer-spec : {M : Type 1} → statement M
+put-buffer-spec =
+    tie.close
+    (tie.spec
+    slice-aggregate-put
+    put-requires
+    put-octets-requires
+    slice-aggregate-put-2
+    put-requires-2
+    same-length
+    returns)

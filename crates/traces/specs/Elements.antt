@@ -1,0 +1,103 @@
+-- The elements of a request writer's record: "token (1), type (1), limit or timeout (2; a limit is below 256), number of conditions (1), each
+-- with ID (1, 0 to 4, rising), length (1, as document 01 has it), octets".
+-- Assumes nothing.
+use Prim.Native.Nat.{ℕ, zero, suc, _+_, _%_}
+use mathlib.Core.Bool.{Bool, true, false, not}
+use mathlib.Core.List.{List, [], _∷_}
+use lib.ListN.{length, getD, set}
+use lib.Dec.{eqb, ltb}
+use Rattle.laws.specs.Choice.{if_then_else_}
+use Rattle.octets.specs.declared.numbers.Kind.{Kind}
+use Rattle.octets.specs.declared.numbers.Kind.the-variants.{Event, Diagnostic}
+use Rattle.octets.specs.Fields.{pairAt}
+use Rattle.octets.specs.Elements.{pieceEnd}
+use Rattle.subelements.specs.declared.Condition.{Condition}
+use Rattle.subelements.specs.declared.Subelements.{Subelements}
+use Rattle.subelements.specs.Subelements.{noFilter, walk}
+use Rattle.requests.specs.declared.Element.{Element}
+use Rattle.traces.specs.declared.elements.Recorded.{Recorded}
+use Rattle.traces.specs.declared.elements.Elements.{Elements}
+use Rattle.traces.specs.Places.{behind}
+
+-- kind 0 and action 0 are an event's
+abbrev pub kindOf : ℕ → Kind
+kindOf n = if eqb n 0 then Event else Diagnostic
+
+abbrev pub noElement : Element
+noElement = record { token = 0; ty = 0; limit = 0; subs = 0; timeout = 0; filter = noFilter }
+
+abbrev pub refusedElement : Recorded
+refusedElement = record { end = 0; element = noElement }
+
+-- a condition: its ID is not below the least one, and is one of document 01's
+unfoldable pub conditionEnd : List ℕ → ℕ → ℕ → ℕ
+conditionEnd s at least =
+    if ltb (getD s at 0) least then 0
+    else if ltb 4 (getD s at 0) then 0
+    else pieceEnd s at (length s)
+
+-- so many, with rising IDs
+unfoldable pub conditionsEnd : List ℕ → ℕ → ℕ → ℕ → ℕ
+conditionsEnd s zero at least = at
+conditionsEnd s (suc k) at least =
+    if eqb (conditionEnd s at least) 0 then 0
+    else conditionsEnd s k (conditionEnd s at least) (getD s at 0 + 1)
+
+-- "a limit is below 256"
+abbrev pub badValue : Kind → ℕ → Bool
+badValue Event value = ltb 255 value
+badValue Diagnostic value = false
+
+abbrev pub limitOf : Kind → ℕ → ℕ
+limitOf Event value = value % 256
+limitOf Diagnostic value = 0
+
+abbrev pub timeoutOf : Kind → ℕ → ℕ
+timeoutOf Event value = 0
+timeoutOf Diagnostic value = value
+
+-- the element whose conditions stand from a position to its end
+abbrev pub elementOf : List ℕ → Kind → ℕ → List Condition → Element
+elementOf s kind at filter =
+    record {
+      token = getD s at 0;
+      ty = getD s (at + 1) 0;
+      limit = limitOf kind (pairAt s (at + 2));
+      subs = 0;
+      timeout = timeoutOf kind (pairAt s (at + 2));
+      filter = filter;
+    }
+
+-- "length (as document 01 has it)": as the walker of conditions has it
+unfoldable pub walkedElement : List ℕ → Kind → ℕ → ℕ → Subelements → Recorded
+walkedElement s kind at end w =
+    if eqb end 0 then refusedElement
+    else if not (eqb (w .refusal .number) 0) then refusedElement
+    else record { end = end; element = elementOf s kind at (w .filter) }
+
+unfoldable pub elementAt : List ℕ → Kind → ℕ → Recorded
+elementAt s kind at =
+    let from = behind s at 5 in
+    let end = conditionsEnd s (getD s (at + 4) 0) from 0 in
+    if eqb from 0 then refusedElement
+    else if badValue kind (pairAt s (at + 2)) then refusedElement
+    else walkedElement s kind at end (walk s 5 from end)
+
+-- one more, kept where it is one of the first eight
+unfoldable pub withElement : Elements → ℕ → Recorded → Elements
+withElement w i r = record { end = r .end; elements = set (w .elements) i (r .element) }
+
+-- so many, behind the first i
+unfoldable pub moreElements : List ℕ → Kind → ℕ → ℕ → Elements → Elements
+moreElements s kind zero i w = w
+moreElements s kind (suc k) i w = moreElements s kind k (i + 1) (withElement w i (elementAt s kind (w .end)))
+
+abbrev pub started : ℕ → Elements
+started from =
+    record {
+      end = from;
+      elements = noElement ∷ noElement ∷ noElement ∷ noElement ∷ noElement ∷ noElement ∷ noElement ∷ noElement ∷ [];
+    }
+
+abbrev pub elementsAt : List ℕ → Kind → ℕ → ℕ → Elements
+elementsAt s kind count from = moreElements s kind count 0 (started from)

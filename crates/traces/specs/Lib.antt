@@ -1,0 +1,5 @@
+pub mod Places
+pub mod Elements
+pub mod Records
+pub mod Words
+pub mod Lines

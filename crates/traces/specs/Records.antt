@@ -1,0 +1,141 @@
+-- Records: where each ends, and its fields. The number of a record stands first; its fields follow, least octet first.
+-- Assumes nothing.
+use Prim.Native.Nat.{ℕ, zero, suc, _+_, _*_}
+use mathlib.Core.Bool.{Bool, not, _||_}
+use mathlib.Core.List.{List, [], _∷_}
+use lib.ListN.{length, getD}
+use lib.Dec.{eqb, ltb, leb}
+use Rattle.laws.specs.Choice.{if_then_else_}
+use Rattle.octets.specs.Fields.{pairAt}
+use Rattle.octets.specs.Addresses.{addressAt}
+use Rattle.units.specs.declared.Milliseconds.{Milliseconds}
+use Rattle.events.specs.declared.Transition.{Transition}
+use Rattle.traces.specs.declared.calls.SetupCall.{SetupCall}
+use Rattle.traces.specs.declared.calls.FrameCall.{FrameCall}
+use Rattle.traces.specs.declared.calls.ReportCall.{ReportCall}
+use Rattle.traces.specs.declared.calls.MoveCall.{MoveCall}
+use Rattle.traces.specs.declared.calls.WriterCall.{WriterCall}
+use Rattle.traces.specs.declared.calls.ReaderCall.{ReaderCall}
+use Rattle.traces.specs.Places.{behind, badLength, octetsEnd, listEnd}
+use Rattle.traces.specs.Elements.{kindOf, elementsAt}
+
+-- ---- where a record's fields end; 0: refused
+
+-- "`04` report call: reading (4), console (6), kind (1: 0 event, 1 diagnostic), buffer length (2), the octet that fills the buffer (1)"
+unfoldable pub reportCallEnd : List ℕ → ℕ → ℕ
+reportCallEnd s at =
+    if ltb 1 (getD s (at + 10) 0) then 0
+    else if badLength s (at + 11) then 0
+    else behind s at 14
+
+-- "action (1: 0 or 2)"
+abbrev pub goodAction : ℕ → Bool
+goodAction action = eqb action 0 || eqb action 2
+
+-- "`10` request writer: buffer length (2), filling octet (1), action, dialog token (1), number of elements (1)", and they
+unfoldable pub writerCallEnd : List ℕ → ℕ → ℕ
+writerCallEnd s at =
+    if badLength s at then 0
+    else if not (goodAction (getD s (at + 3) 0)) then 0
+    else elementsAt s (kindOf (getD s (at + 3) 0)) (getD s (at + 5) 0) (behind s at 6) .end
+
+-- the fields of a record of a number, from a position on
+unfoldable pub fieldsEnd : List ℕ → ℕ → ℕ → ℕ
+fieldsEnd s number at =
+    -- "`00` setup: identity length (2), identity, number of addresses (1), addresses (6 each)"
+    if eqb number 0 then listEnd s (octetsEnd s at)
+    -- "`01` clock: reading (4)"
+    else if eqb number 1 then behind s at 4
+    -- "`02` logging: reading (4), time (9), source (6), target (6), reason (1), result (2), .. (1 each), departure (4)"
+    else if eqb number 2 then behind s at 36
+    -- "`03` frame call: reading (4), destination (6), source (6), length (2), octets"
+    else if eqb number 3 then octetsEnd s (behind s at 16)
+    else if eqb number 4 then reportCallEnd s at
+    -- "`05` move, `06` network change: reading (4), number of addresses (1), addresses"
+    else if eqb number 5 then listEnd s (behind s at 4)
+    else if eqb number 6 then listEnd s (behind s at 4)
+    else if eqb number 16 then writerCallEnd s at
+    -- "`11` report reader: destination (6), length (2), octets"
+    else if eqb number 17 then octetsEnd s (behind s at 6)
+    else 0
+
+-- "A record that is cut, unknown, or has a field out of the range": 0
+unfoldable pub recordEnd : List ℕ → ℕ → ℕ
+recordEnd s at = if leb (length s) at then 0 else fieldsEnd s (getD s at 0) (at + 1)
+
+-- ---- the fields; octets past the end of the input are 0
+
+-- where they stand: behind the record's number; past the end of the input, at that end
+unfoldable pub fieldsOf : List ℕ → ℕ → ℕ
+fieldsOf s at = if leb (length s) at then length s else at + 1
+
+unfoldable pub millisecondsAt : List ℕ → ℕ → Milliseconds
+millisecondsAt s at = record { 0 = pairAt s at + 65536 * pairAt s (at + 2) }
+
+-- the nine octets of a time
+unfoldable pub timeAt : List ℕ → ℕ → List ℕ
+timeAt s at =
+    getD s at 0 ∷ getD s (at + 1) 0 ∷ getD s (at + 2) 0 ∷ getD s (at + 3) 0 ∷ getD s (at + 4) 0 ∷ getD s (at + 5) 0 ∷ getD s (at + 6) 0 ∷ getD s (at + 7) 0 ∷ getD s (at + 8) 0 ∷ []
+
+-- source RCPI, source RSNI, target RCPI, target RSNI
+unfoldable pub signalsAt : List ℕ → ℕ → List ℕ
+signalsAt s at = getD s at 0 ∷ getD s (at + 1) 0 ∷ getD s (at + 2) 0 ∷ getD s (at + 3) 0 ∷ []
+
+-- so many addresses, one behind the other
+unfoldable pub addressesAt : List ℕ → ℕ → ℕ → List (List ℕ)
+addressesAt s zero at = []
+addressesAt s (suc n) at = addressAt s at ∷ addressesAt s n (at + 6)
+
+unfoldable pub setupFields : List ℕ → ℕ → SetupCall
+setupFields s at =
+    let to = at + 2 + pairAt s at in
+    record { from = at + 2; to = to; count = getD s to 0; list = to + 1 }
+
+unfoldable pub transitionFields : List ℕ → ℕ → Transition
+transitionFields s at =
+    record {
+      time = timeAt s (at + 4);
+      source = addressAt s (at + 13);
+      target = addressAt s (at + 19);
+      reason = getD s (at + 25) 0;
+      result = pairAt s (at + 26);
+      signals = signalsAt s (at + 28);
+      departure = millisecondsAt s (at + 32);
+    }
+
+unfoldable pub frameFields : List ℕ → ℕ → FrameCall
+frameFields s at =
+    record {
+      reading = millisecondsAt s at;
+      destination = addressAt s (at + 4);
+      source = addressAt s (at + 10);
+      from = at + 18;
+      to = at + 18 + pairAt s (at + 16);
+    }
+
+unfoldable pub reportFields : List ℕ → ℕ → ReportCall
+reportFields s at =
+    record {
+      reading = millisecondsAt s at;
+      requester = addressAt s (at + 4);
+      kind = kindOf (getD s (at + 10) 0);
+      length = pairAt s (at + 11);
+      fill = getD s (at + 13) 0;
+    }
+
+unfoldable pub moveFields : List ℕ → ℕ → MoveCall
+moveFields s at = record { reading = millisecondsAt s at; count = getD s (at + 4) 0; list = at + 5 }
+
+unfoldable pub writerFields : List ℕ → ℕ → WriterCall
+writerFields s at =
+    record {
+      length = pairAt s at;
+      fill = getD s (at + 2) 0;
+      kind = kindOf (getD s (at + 3) 0);
+      dialog = getD s (at + 4) 0;
+      count = getD s (at + 5) 0;
+      elements = at + 6;
+    }
+
+unfoldable pub readerFields : List ℕ → ℕ → ReaderCall
+readerFields s at = record { destination = addressAt s at; from = at + 8; to = at + 8 + pairAt s (at + 6) }

@@ -1,0 +1,240 @@
+// The fields of each record; octets past the end of the input are 0.
+use crate::elements::kind_of;
+use events::Transition;
+use octets::Kind;
+use octets::address_at;
+use octets::octet;
+use octets::pair_at;
+use units::Milliseconds;
+ghost use mathlib.Core.Path.{_≡_};
+ghost use Prim.Native.Nat.{_≤_};
+ghost use lib.ListN.{length};
+ghost use Rattle.traces.specs.Records.{fieldsOf, millisecondsAt, timeAt, signalsAt, addressesAt, setupFields, transitionFields, frameFields, reportFields, moveFields, writerFields, readerFields};
+
+// The identity stands from one position to another; behind it are a number of addresses, and they.
+pub struct SetupCall {
+    pub from: usize,
+    pub to: usize,
+    pub count: u8,
+    pub list: usize,
+}
+
+// The frame stands from one position to another.
+pub struct FrameCall {
+    pub reading: Milliseconds,
+    pub destination: [u8; 6],
+    pub source: [u8; 6],
+    pub from: usize,
+    pub to: usize,
+}
+
+// The buffer has a length, and is filled with one octet.
+pub struct ReportCall {
+    pub reading: Milliseconds,
+    pub requester: [u8; 6],
+    pub kind: Kind,
+    pub length: u16,
+    pub fill: u8,
+}
+
+// A move or a network change; its addresses stand at a position.
+pub struct MoveCall {
+    pub reading: Milliseconds,
+    pub count: u8,
+    pub list: usize,
+}
+
+// The elements stand at a position.
+pub struct WriterCall {
+    pub length: u16,
+    pub fill: u8,
+    pub kind: Kind,
+    pub dialog: u8,
+    pub count: u8,
+    pub elements: usize,
+}
+
+// The frame stands from one position to another.
+pub struct ReaderCall {
+    pub destination: [u8; 6],
+    pub from: usize,
+    pub to: usize,
+}
+
+// The position of a record's fields; past the end of the input, that end.
+fn fields(s: &[u8], at: usize) -> usize
+    ensures { λ r. ⌜ (r ≡ fieldsOf (now (s .entry)) at) × (r ≤ length (now (s .entry))) ⌝ }
+{
+    if s.len() <= at {
+        return s.len();
+    }
+    at + 1
+}
+
+fn milliseconds_at(s: &[u8], at: usize) -> Milliseconds
+    ensures { λ r. ⌜ r ≡ millisecondsAt (now (s .entry)) at ⌝ }
+{
+    if s.len() <= at {
+        return Milliseconds(0);
+    }
+    Milliseconds((pair_at(s, at) as u32) + 65536 * (pair_at(s, at + 2) as u32))
+}
+
+fn signals_at(s: &[u8], at: usize) -> [u8; 4]
+    ensures { λ r. ⌜ r ≡ signalsAt (now (s .entry)) at ⌝ }
+{
+    if s.len() <= at {
+        return [0; 4];
+    }
+    [
+        octet(s, at),
+        octet(s, at + 1),
+        octet(s, at + 2),
+        octet(s, at + 3),
+    ]
+}
+
+fn time_at(s: &[u8], at: usize) -> [u8; 9]
+    ensures { λ r. ⌜ r ≡ timeAt (now (s .entry)) at ⌝ }
+{
+    if s.len() <= at {
+        return [0; 9];
+    }
+    [
+        octet(s, at),
+        octet(s, at + 1),
+        octet(s, at + 2),
+        octet(s, at + 3),
+        octet(s, at + 4),
+        octet(s, at + 5),
+        octet(s, at + 6),
+        octet(s, at + 7),
+        octet(s, at + 8),
+    ]
+}
+
+// 255 addresses, one behind the other.
+fn read_addresses(s: &[u8], from: usize) -> [[u8; 6]; 255]
+    requires { ⌜ from ≤ length (now s) ⌝ }
+    ensures { λ r. ⌜ r ≡ addressesAt (now (s .entry)) 255 from ⌝ }
+{
+    let mut list = [[0u8; 6]; 255];
+    let mut at = from;
+    let mut i: usize = 0;
+    while i < 255 {
+        list[i] = address_at(s, at);
+        at += 6;
+        i += 1;
+    }
+    list
+}
+
+// The addresses at a position, as many as a record can have.
+pub fn addresses_at(s: &[u8], from: usize) -> [[u8; 6]; 255]
+    ensures { λ r. ⌜ r ≡ addressesAt (now (s .entry)) 255 from ⌝ }
+{
+    if s.len() < from {
+        return read_addresses(s, s.len());
+    }
+    read_addresses(s, from)
+}
+
+// The reading that is the first field of a record.
+pub fn reading_at(s: &[u8], at: usize) -> Milliseconds
+    ensures { λ r. ⌜ r ≡ millisecondsAt (now (s .entry)) (fieldsOf (now (s .entry)) at) ⌝ }
+{
+    milliseconds_at(s, fields(s, at))
+}
+
+pub fn setup_at(s: &[u8], at: usize) -> SetupCall
+    ensures { λ r. ⌜ r ≡ setupFields (now (s .entry)) (fieldsOf (now (s .entry)) at) ⌝ }
+{
+    let at = fields(s, at);
+    let to = at + 2 + (pair_at(s, at) as usize);
+    SetupCall {
+        from: at + 2,
+        to,
+        count: octet(s, to),
+        list: to + 1,
+    }
+}
+
+// The transition of a logging record.
+pub fn transition_at(s: &[u8], at: usize) -> Transition
+    ensures { λ r. ⌜ r ≡ transitionFields (now (s .entry)) (fieldsOf (now (s .entry)) at) ⌝ }
+{
+    let at = fields(s, at);
+    Transition {
+        time: time_at(s, at + 4),
+        source: address_at(s, at + 13),
+        target: address_at(s, at + 19),
+        reason: octet(s, at + 25),
+        result: pair_at(s, at + 26),
+        signals: signals_at(s, at + 28),
+        departure: milliseconds_at(s, at + 32),
+    }
+}
+
+pub fn frame_call_at(s: &[u8], at: usize) -> FrameCall
+    ensures { λ r. ⌜ r ≡ frameFields (now (s .entry)) (fieldsOf (now (s .entry)) at) ⌝ }
+{
+    let at = fields(s, at);
+    let from = at + 18;
+    FrameCall {
+        reading: milliseconds_at(s, at),
+        destination: address_at(s, at + 4),
+        source: address_at(s, at + 10),
+        from,
+        to: from + (pair_at(s, at + 16) as usize),
+    }
+}
+
+pub fn report_call_at(s: &[u8], at: usize) -> ReportCall
+    ensures { λ r. ⌜ r ≡ reportFields (now (s .entry)) (fieldsOf (now (s .entry)) at) ⌝ }
+{
+    let at = fields(s, at);
+    ReportCall {
+        reading: milliseconds_at(s, at),
+        requester: address_at(s, at + 4),
+        kind: kind_of(octet(s, at + 10)),
+        length: pair_at(s, at + 11),
+        fill: octet(s, at + 13),
+    }
+}
+
+pub fn move_at(s: &[u8], at: usize) -> MoveCall
+    ensures { λ r. ⌜ r ≡ moveFields (now (s .entry)) (fieldsOf (now (s .entry)) at) ⌝ }
+{
+    let at = fields(s, at);
+    MoveCall {
+        reading: milliseconds_at(s, at),
+        count: octet(s, at + 4),
+        list: at + 5,
+    }
+}
+
+pub fn writer_call_at(s: &[u8], at: usize) -> WriterCall
+    ensures { λ r. ⌜ r ≡ writerFields (now (s .entry)) (fieldsOf (now (s .entry)) at) ⌝ }
+{
+    let at = fields(s, at);
+    WriterCall {
+        length: pair_at(s, at),
+        fill: octet(s, at + 2),
+        kind: kind_of(octet(s, at + 3)),
+        dialog: octet(s, at + 4),
+        count: octet(s, at + 5),
+        elements: at + 6,
+    }
+}
+
+pub fn reader_call_at(s: &[u8], at: usize) -> ReaderCall
+    ensures { λ r. ⌜ r ≡ readerFields (now (s .entry)) (fieldsOf (now (s .entry)) at) ⌝ }
+{
+    let at = fields(s, at);
+    let from = at + 8;
+    ReaderCall {
+        destination: address_at(s, at),
+        from,
+        to: from + (pair_at(s, at + 6) as usize),
+    }
+}
