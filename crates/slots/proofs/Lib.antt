@@ -3,3 +3,4 @@ pub mod PartLaws
 pub mod DialogLaws
 pub mod DiagnosticLaws
 pub mod RequesterLaws
+pub mod WaitingLaws
