@@ -2,3 +2,4 @@ pub mod FillLaws
 pub mod EventLaws
 pub mod ReportLaws
 pub mod ServeLaws
+pub mod SearchLaws

@@ -1,3 +1,4 @@
 pub mod DialogLaws
 pub mod DiagnosticLaws
 pub mod RequesterLaws
+pub mod WaitingLaws
