@@ -24,7 +24,7 @@ struct Options {
 fn options() -> Result<Options, String> {
     let default_folder = concat!(env!("CARGO_MANIFEST_DIR"), "/../target/bin");
     let folder = std::env::var_os("PROGRAMS").map_or(PathBuf::from(default_folder), PathBuf::from);
-    let mut options = Options { seed: 1, frames: 20_000, reports: 10_000, traces: 300, folder };
+    let mut options = Options { seed: 1, frames: 60_000, reports: 20_000, traces: 1500, folder };
     let mut words = std::env::args().skip(1);
     while let Some(word) = words.next() {
         if word == "--full" {
