@@ -3,4 +3,3 @@ pub mod PartLaws
 pub mod DialogLaws
 pub mod DiagnosticLaws
 pub mod RequesterLaws
-pub mod WaitingLaws
