@@ -11,11 +11,10 @@
  *     o = dultxibe_tick(o.station, reading);
  *
  * The functions keep nothing, call nothing but memcpy, memmove and memset, and need no memory but
- * the stack. A gate's
- * fields are not for the caller. A struct that is handed in comes from a function of this file,
- * whole; a bool is 0 or 1. A pointer is never null, also where its length is 0, and a buffer that is
- * written overlaps nothing else that is handed in. The numbers of causes, "cause", are those of
- * document 01's table, "Why a call is turned away". */
+ * the stack. A gate's fields are not for the caller. A struct that is handed in comes from a function
+ * of this file, whole, or has every field set; a bool is 0 or 1. A pointer is never null, also where
+ * its length is 0, and a buffer that is written overlaps nothing else that is handed in. The numbers
+ * of causes are those of document 01's table, "Why a call is turned away". */
 #ifndef DULTXIBE_H
 #define DULTXIBE_H
 

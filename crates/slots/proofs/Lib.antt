@@ -1,4 +1,3 @@
 pub mod DialogLaws
 pub mod DiagnosticLaws
 pub mod RequesterLaws
-pub mod WaitingLaws

@@ -1,14 +1,12 @@
 -- What the code of the slots speaks of beside the model.
 -- Assumes nothing.
 use Prim.Native.Nat.{ℕ, suc}
-use mathlib.Core.Bool.{Bool, false, _||_}
 use mathlib.Core.List.{List, [], _∷_}
 use lib.ListN.{take}
 use Rattle.laws.specs.Choice.{if_then_else_}
 use Rattle.octets.specs.Addresses.{same}
 use Rattle.model.specs.declared.Diagnostic.{Diagnostic}
 use Rattle.model.specs.Model.{Address, Requester}
-use Rattle.requesters.specs.declared.Requester.{Requester as Code·Requester}
 use Rattle.slots.specs.declared.diagnostics.Diagnostics.{Diagnostics}
 
 -- the elements that a list of them has
@@ -19,8 +17,3 @@ listed k = take (k .count) (k .elements)
 unfoldable pub place : Address → List Requester → ℕ
 place a [] = 0
 place a (r ∷ rs) = if same a (r .address) then 0 else suc (place a rs)
-
--- is a diagnostic request of one of them outstanding?
-unfoldable pub waiting : List Code·Requester → Bool
-waiting [] = false
-waiting (r ∷ rs) = r .diagnostics .outstanding || waiting rs
