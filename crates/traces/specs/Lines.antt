@@ -2,7 +2,7 @@
 -- Assumes nothing.
 use Prim.Native.Nat.{ℕ}
 use mathlib.Core.List.{List, [], _∷_, _++_, map}
-use Rattle.octets.specs.Text.{decimal, hex}
+use Rattle.octets.specs.Text.{hex}
 use Rattle.report_listing.specs.Words.{newline}
 use Rattle.report_listing.specs.Listing.{fieldWords, refusalLine}
 use Rattle.requesters.specs.declared.Answer.{Answer}

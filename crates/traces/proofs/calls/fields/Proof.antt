@@ -1,7 +1,6 @@
 -- `traces::calls::fields` meets its contract.
 -- Assumes nothing.
 use borrow.Author.Tests.{le-leb, lt-leb}
-use native.Mathlib.Omega.{arith}
 use Rattle.laws.specs.Choice.{if_then_else_}
 use Rattle.traces.specs.Records.{fieldsOf}
 use borrow.Author.Needs.{needs}

@@ -1,7 +1,7 @@
 -- `traces::calls::read_addresses` meets its contract: the first i addresses are read.
 -- Assumes nothing.
 use Prim.Native.Nat.{_+_, _-_, _*_, _≤_}
-use mathlib.Core.Path.{_≡_, refl, sym, ap, _∙_}
+use mathlib.Core.Path.{_≡_, refl, _∙_}
 use mathlib.Core.List.{_++_}
 use native.Mathlib.Omega.{arith}
 use lib.ListN.{length, drop, length-set}

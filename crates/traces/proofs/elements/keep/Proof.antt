@@ -2,8 +2,6 @@
 -- Assumes nothing.
 use Rattle.traces.proofs.WalkLaws.{set-past}
 use mathlib.Core.Path.{sym}
-use lib.ListN.{length}
-use native.Mathlib.Omega.{arith}
 use borrow.Author.Needs.{needs}
 use Rattle.traces.proofs.elements.keep.Statement.{statement}
 use Rattle.traces.proofs.elements.keep.Tie as tie

@@ -1,6 +1,6 @@
 -- `traces::text::put_octets` meets its contract: the octets left are put as all of them are.
 -- Assumes nothing.
-use Prim.Native.Nat.{_+_, _-_, _≤_}
+use Prim.Native.Nat.{_-_, _≤_}
 use mathlib.Core.Path.{_≡_, refl, sym, _∙_}
 use mathlib.Core.List.{map}
 use native.Mathlib.Omega.{arith}
