@@ -1,4 +1,3 @@
 pub mod Seen
 pub mod Independence
-pub mod Cases
 pub mod Starred

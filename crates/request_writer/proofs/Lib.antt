@@ -4,4 +4,3 @@ pub mod ConditionsBack
 pub mod ElementsBack
 pub mod RoundTrip
 pub mod Writing
-pub mod Cases
