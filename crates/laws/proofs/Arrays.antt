@@ -110,3 +110,9 @@ module _ {A : Type 0} where
   element-past [] i h = refl
   element-past (x ∷ xs) zero h = absurd (not-suc-le-zero h)
   element-past (x ∷ xs) (suc i) h = element-past xs i (le-of-suc-le-suc h)
+
+-- a store past the end changes nothing
+pub set-past : {A : Type 0} (l : List A) (i : ℕ) (x : A) → length l ≤ i → set l i x ≡ l
+set-past [] i x h = refl
+set-past (y ∷ ys) zero x h = absurd (let z : suc (length ys) ≤ 0 = h in omega arith)
+set-past {A} (y ∷ ys) (suc i) x h = ap {B = List A} (λ r. y ∷ r) (set-past ys i x (omega arith))

@@ -27,8 +27,6 @@ use Rattle.laws.proofs.Choice.{apply-if}
 use Rattle.octets.proofs.AddressLaws.{same-sym}
 use Rattle.model.specs.Independence.{quietFor, quiet}
 
--- ---- general
-
 -- ---- the requester that an address finds
 
 -- a function that keeps each requester's address

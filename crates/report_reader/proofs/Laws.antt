@@ -1,16 +1,15 @@
 -- Laws of the reader: a step that is not refused moves on, and not past the end; the judgement agrees with the cursor's walk.
 -- Assumes nothing.
-use Prim.Native.Nat.{ℕ, zero, suc, _+_, _-_, _≤_, _<_}
-use mathlib.Core.Path.{_≡_, refl, ap, _∙_}
+use Prim.Native.Nat.{ℕ, _+_, _-_, _≤_, _<_}
+use mathlib.Core.Path.{_≡_, refl}
 use mathlib.Core.Bool.{Bool, true, false, not}
 use mathlib.Core.List.{List, [], _∷_, _++_}
 use native.Mathlib.Omega.{arith}
-use lib.ListN.{length, getD, take, drop, length-append}
-use lib.Seq.{drop-cons}
+use lib.ListN.{length, getD, length-append}
 use lib.Dec.{eqb}
 use borrow.Author.Tests.{eqb-true, eqb-false, not-true, not-false}
 use Rattle.laws.specs.Choice.{if_then_else_}
-use Rattle.laws.specs.Walk.{repeatWhile}
+use Rattle.laws.proofs.Walk.{view-walk}
 use Rattle.laws.proofs.Choice.{either}
 use Rattle.octets.specs.declared.numbers.Kind.{Kind}
 use Rattle.octets.specs.declared.numbers.Kind.the-variants.{Event, Diagnostic}
@@ -21,20 +20,6 @@ use Rattle.subelements.specs.Subelements.{walk}
 use Rattle.report_reader.specs.declared.Step.{Step}
 use Rattle.report_reader.specs.declared.Walk.{Walk}
 use Rattle.report_reader.specs.Reader.{refusedStep, plainStep, loggedStep, bareStep, transitionStep, eventStep, walkedStep, diagnosticStep, kindStep, ownStep, stepAt, atWalk, advanced, more, judgeStep, judge, Reading, reading, gathered, unread, readStep, readElements, viewed}
-
--- ---- general: the octets of a part, one by one
-
-unfoldable pub spelt : ℕ → ℕ → List ℕ → ℕ → List ℕ
-spelt zero k s at = []
-spelt (suc n) k s at = getD s (at + k) 0 ∷ spelt n (k + 1) s at
-
-pub part-spelt : (n k : ℕ) (s : List ℕ) (at : ℕ) → at + k + n ≤ length s → take n (drop (at + k) s) ≡ spelt n k s at
-unfolding spelt
-part-spelt zero k s at h = refl
-part-spelt (suc n) k s at h =
-    let e : suc (at + k) ≡ at + (k + 1) = omega arith in
-    ap (take (suc n)) (drop-cons s (at + k) 0 (omega arith))
-    ∙ ap (λ (r : List ℕ). getD s (at + k) 0 ∷ r) (ap (λ (j : ℕ). take n (drop j s)) e ∙ part-spelt n (k + 1) s at (omega arith))
 
 -- ---- a step moves on
 
@@ -122,18 +107,6 @@ unfolding judgeStep
 moved s kind {w} e c z = rw e (advanced-moves s w (stepAt s kind (w .at)) (step-goes s kind (w .at)) c (rw e at z))
 
 -- ---- the judgement agrees with the cursor's walk
-
--- general: a walk that is seen through a view
-pub view-walk : {A B : Type 0} (v : A → B) (goA : A → Bool) (goB : B → Bool) (f : A → A) (g : B → B)
-    → ((w : A) → goB (v w) ≡ goA w) → ((w : A) → g (v w) ≡ v (f w)) → (k : ℕ) (w : A) → repeatWhile k goB g (v w) ≡ v (repeatWhile k goA f w)
-unfolding repeatWhile
-view-walk v goA goB f g p q zero w = refl
-view-walk v goA goB f g p q (suc k) w = at-test (goA w) (p w) (view-walk v goA goB f g p q k (f w))
-  where
-    at-test : (b : Bool) → goB (v w) ≡ b → repeatWhile k goB g (v (f w)) ≡ v (repeatWhile k goA f (f w))
-        → elim (goB (v w)) [ true ↦ repeatWhile k goB g (g (v w)) | false ↦ v w ] ≡ v (elim b [ true ↦ repeatWhile k goA f (f w) | false ↦ w ])
-    at-test true e r = rw (e, q w) r
-    at-test false e r = rw e
 
 gathered-viewed : (w : Reading) (t : Step) → advanced (viewed w) t ≡ viewed (gathered w t)
 unfolding advanced gathered if_then_else_

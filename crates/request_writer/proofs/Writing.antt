@@ -5,7 +5,7 @@ use mathlib.Core.Path.{_≡_, refl, sym, ap, _∙_}
 use mathlib.Core.Bool.{true, false}
 use mathlib.Core.List.{List, [], _∷_, _++_, append-assoc, append-nil}
 use lib.ListN.{length, getD, take, drop, length-append, length-take, length-drop, drop-of-length-le}
-use lib.Seq.{drop-cons, take-suc, take-all, take-at, drop-at, drop-drop, length-take-le, take-append-add}
+use lib.Seq.{take-suc, take-all, take-at, drop-at, drop-drop, length-take-le, take-append-add}
 use borrow.Author.Tests.{eq-eqb, ne-eqb, lt-ltb, le-ltb}
 use borrow.Rule.Slice.PartMut.{putMid}
 use native.Mathlib.Numerals.{add-one}
@@ -25,6 +25,7 @@ use Rattle.requests.specs.declared.Element.{Element}
 use Rattle.requests.specs.Elements.{pastElements, badToken}
 use Rattle.laws.proofs.Arrays.{take-next}
 use Rattle.laws.proofs.Pieces.{pieces-snoc}
+use Rattle.laws.proofs.Parts.{spelt, spelt-all}
 use Rattle.request_writer.specs.declared.Written.{Written}
 use Rattle.request_writer.specs.Frames.{conditionOctets, filterOctets, elementBody, elementOctets, elementsOctets, frameOctets}
 use Rattle.request_writer.specs.Writer.{tokenRefusal, refusedWritten, writtenLength, elementsAnswer, frameAnswer, writeAnswer, writeOctets, outcome, writeRequest}
@@ -48,14 +49,8 @@ tail-length s a h = length-take-le (length s - a) (drop a s) (omega (arith, leng
 
 -- an array of six, place by place
 pub six : (o : List ℕ) → length o ≡ 6 → getD o 0 0 ∷ getD o 1 0 ∷ getD o 2 0 ∷ getD o 3 0 ∷ getD o 4 0 ∷ getD o 5 0 ∷ [] ≡ o
-six o e =
-    sym (drop-cons o 0 0 (omega arith)
-    ∙ ap (λ (l : List ℕ). getD o 0 0 ∷ l) (drop-cons o 1 0 (omega arith)
-    ∙ ap (λ (l : List ℕ). getD o 1 0 ∷ l) (drop-cons o 2 0 (omega arith)
-    ∙ ap (λ (l : List ℕ). getD o 2 0 ∷ l) (drop-cons o 3 0 (omega arith)
-    ∙ ap (λ (l : List ℕ). getD o 3 0 ∷ l) (drop-cons o 4 0 (omega arith)
-    ∙ ap (λ (l : List ℕ). getD o 4 0 ∷ l) (drop-cons o 5 0 (omega arith)
-    ∙ ap (λ (l : List ℕ). getD o 5 0 ∷ l) (drop-of-length-le o {i = 6} (omega arith))))))))
+unfolding spelt
+six o e = spelt-all 6 o e
 
 -- ---- conditions
 

@@ -1,9 +1,9 @@
 -- Laws of the walks over conditions and elements: one turn, and the end.
 -- Assumes nothing.
-use Prim.Native.Nat.{ℕ, zero, suc, _+_, _≤_, _<_}
-use mathlib.Core.Path.{_≡_, refl, ap}
-use mathlib.Core.List.{List, [], _∷_}
-use lib.ListN.{length, getD, set}
+use Prim.Native.Nat.{ℕ, zero, suc, _+_, _<_}
+use mathlib.Core.Path.{_≡_, refl}
+use mathlib.Core.List.{List}
+use lib.ListN.{length, getD}
 use native.Mathlib.Omega.{arith}
 use borrow.Author.Tests.{eq-eqb, ne-eqb, lt-ltb}
 use Rattle.laws.specs.Choice.{if_then_else_}
@@ -39,9 +39,3 @@ module _ (s : List ℕ) (kind : Kind) (n i : ℕ) (w : Elements) where
   pub elements-done : n ≡ 0 → moreElements s kind n i w ≡ w
   unfolding moreElements
   elements-done z = rw z
-
--- a store past the end changes nothing
-pub set-past : {A : Type 0} (l : List A) (i : ℕ) (x : A) → length l ≤ i → set l i x ≡ l
-set-past [] i x h = refl
-set-past (y ∷ ys) zero x h = absurd (let z : suc (length ys) ≤ 0 = h in omega arith)
-set-past {A} (y ∷ ys) (suc i) x h = ap {B = List A} (λ r. y ∷ r) (set-past ys i x (omega arith))

@@ -3,7 +3,7 @@
 use mathlib.Core.Path.{sym}
 use native.Mathlib.Nat.{add-zero}
 use native.Mathlib.Omega.{arith}
-use Rattle.report_reader.proofs.Laws.{spelt, part-spelt}
+use Rattle.laws.proofs.Parts.{spelt, part-spelt}
 use borrow.Author.Needs.{needs}
 use Rattle.report_reader.proofs.signals_at.Statement.{statement}
 use Rattle.report_reader.proofs.signals_at.Tie as tie

@@ -1,6 +1,6 @@
 -- `traces::elements::keep` meets its contract.
 -- Assumes nothing.
-use Rattle.traces.proofs.WalkLaws.{set-past}
+use Rattle.laws.proofs.Arrays.{set-past}
 use mathlib.Core.Path.{sym}
 use borrow.Author.Needs.{needs}
 use Rattle.traces.proofs.elements.keep.Statement.{statement}
