@@ -1,6 +1,7 @@
 // Replays a recorded list of calls from standard input, and prints each answer. The format of the
 // records and the text of each line are those of traces.
 use libc::STDIN_FILENO;
+use octets::least;
 use octets::octet;
 use printing::print;
 use printing::print_frame;
@@ -25,7 +26,6 @@ use traces::report_call_at;
 use traces::setup_at;
 use traces::transition_at;
 use traces::writer_call_at;
-ghost use Prim.Native.Nat.{_≤_};
 
 // A trace has at most so many octets.
 const LONGEST: usize = 262144;
@@ -71,17 +71,6 @@ fn part(s: &[u8], from: usize, to: usize) -> &[u8] {
     &s[from..to]
 }
 
-// A buffer's length, of the 4,096 octets that there are.
-fn within(n: u16) -> usize
-    ensures { λ r. ⌜ r ≤ 4096 ⌝ }
-{
-    let n = n as usize;
-    if 4096 < n {
-        return 4096;
-    }
-    n
-}
-
 fn set_up(s: &[u8], at: usize) -> Station {
     let c = setup_at(s, at);
     let list = addresses_at(s, c.list);
@@ -117,7 +106,7 @@ fn report_into(g: Station, c: ReportCall, buf: &mut [u8]) -> Station {
 fn report(g: Station, s: &[u8], at: usize) -> Station {
     let c = report_call_at(s, at);
     let fill = c.fill;
-    let n = within(c.length);
+    let n = least(c.length as usize, 4096);
     let mut buf = [fill; 4096];
     report_into(g, c, &mut buf[..n])
 }
@@ -158,7 +147,7 @@ fn write_into(s: &[u8], c: WriterCall, buf: &mut [u8]) {
 fn write(s: &[u8], at: usize) {
     let c = writer_call_at(s, at);
     let fill = c.fill;
-    let n = within(c.length);
+    let n = least(c.length as usize, 4096);
     let mut buf = [fill; 4096];
     write_into(s, c, &mut buf[..n]);
 }
@@ -206,18 +195,9 @@ fn replay(s: &[u8]) -> usize {
     at
 }
 
-fn trace_length(n: usize) -> usize
-    ensures { λ r. ⌜ r ≤ n ⌝ }
-{
-    if LONGEST < n {
-        return LONGEST;
-    }
-    n
-}
-
 // The records of an input; what is left of it is refused.
 fn run(input: &[u8]) {
-    let end = trace_length(input.len());
+    let end = least(input.len(), LONGEST);
     let reached = replay(&input[..end]);
     if reached < input.len() {
         print_trace_refusal(reached);

@@ -6,8 +6,8 @@ use borrow.Author.Needs.{needs}
 use Rattle.replay.proofs.run.Statement.{statement}
 use Rattle.replay.proofs.run.Tie as tie
 
-trace-length-requires : tie.Need-trace-length-requires
-trace-length-requires c κs = search needs
+least-requires : tie.Need-least-requires
+least-requires c κs = search needs
 
 slice-aggregate-replay : tie.Need-slice-aggregate-replay
 slice-aggregate-replay c = sym (length-take-le _ _ (search needs))
@@ -28,7 +28,7 @@ pub run-spec : {M : Type 1} → statement M
 run-spec =
     tie.close
     (tie.spec
-    trace-length-requires
+    least-requires
     slice-aggregate-replay
     replay-requires
     print-trace-refusal-requires

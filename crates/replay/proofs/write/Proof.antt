@@ -9,8 +9,11 @@ use Rattle.replay.proofs.write.Tie as tie
 writer-call-at-requires : tie.Need-writer-call-at-requires
 writer-call-at-requires c κs = search needs
 
-within-requires : tie.Need-within-requires
-within-requires c κs = search needs
+cast-least : tie.Need-cast-least
+cast-least c = search needs
+
+least-requires : tie.Need-least-requires
+least-requires c κs = search needs
 
 array-borrow-prefix-buf : tie.Need-array-borrow-prefix-buf
 array-borrow-prefix-buf c = search needs
@@ -29,7 +32,8 @@ write-spec =
     tie.close
     (tie.spec
     writer-call-at-requires
-    within-requires
+    cast-least
+    least-requires
     array-borrow-prefix-buf
     slice-aggregate-write-into
     write-into-requires
