@@ -87,25 +87,38 @@ const _: () = assert!(size_of::<ReportFrame>() == 24 && size_of::<Step>() == 96)
 const _: () = assert!(offset_of!(Step, element) == 32 && offset_of!(Element, event) == 26);
 
 extern "C" {
-    pub fn dultxibe_setup(identity: *const u8, length: usize, consoles: *const [u8; 6], count: usize) -> Outcome;
-    pub fn dultxibe_tick(station: Station, reading: u32) -> Outcome;
-    pub fn dultxibe_log(station: Station, reading: u32, transition: Transition) -> Outcome;
+    pub fn dultxibe_setup(
+        outcome: *mut Outcome,
+        identity: *const u8,
+        length: usize,
+        consoles: *const [u8; 6],
+        count: usize,
+    ) -> *mut Outcome;
+    pub fn dultxibe_tick(outcome: *mut Outcome, station: Station, reading: u32) -> *mut Outcome;
+    pub fn dultxibe_log(
+        outcome: *mut Outcome,
+        station: Station,
+        reading: u32,
+        transition: Transition,
+    ) -> *mut Outcome;
     pub fn dultxibe_frame(
+        outcome: *mut Outcome,
         station: Station,
         reading: u32,
         destination: *const [u8; 6],
         source: *const [u8; 6],
         frame: *const u8,
         length: usize,
-    ) -> Outcome;
+    ) -> *mut Outcome;
     pub fn dultxibe_report(
+        outcome: *mut Outcome,
         station: Station,
         reading: u32,
         console: *const [u8; 6],
         kind: u8,
         buffer: *mut u8,
         length: usize,
-    ) -> Outcome;
+    ) -> *mut Outcome;
     pub fn dultxibe_read_report(destination: *const [u8; 6], frame: *const u8, length: usize) -> ReportFrame;
     pub fn dultxibe_next_element(kind: u8, position: usize, frame: *const u8, length: usize) -> Step;
 }

@@ -10,6 +10,7 @@ mod firmware;
 mod twin;
 
 use std::hint::black_box;
+use std::mem::MaybeUninit;
 use std::time::Instant;
 
 const STATIONS: usize = 8;
@@ -38,21 +39,23 @@ trait Side: Copy {
     fn read(octets: &[u8]) -> (usize, u64);
 }
 
-fn take(station: &mut firmware::Station, outcome: firmware::Outcome) -> Answer {
-    *station = outcome.station;
-    outcome.reply
-}
-
-impl Side for firmware::Station {
+/// The proved side: what the last call gave, with the station that the next call takes by value.
+impl Side for firmware::Outcome {
     fn set_up() -> Self {
-        unsafe { firmware::dultxibe_setup(IDENTITY.as_ptr(), IDENTITY.len(), CONSOLES.as_ptr(), 4).station }
+        let mut outcome = MaybeUninit::uninit();
+        unsafe {
+            firmware::dultxibe_setup(outcome.as_mut_ptr(), IDENTITY.as_ptr(), IDENTITY.len(), CONSOLES.as_ptr(), 4);
+            outcome.assume_init()
+        }
     }
 
+    #[inline(never)]
     fn tick(&mut self, reading: u32) -> Answer {
-        let outcome = unsafe { firmware::dultxibe_tick(*self, reading) };
-        take(self, outcome)
+        unsafe { firmware::dultxibe_tick(self, self.station, reading) };
+        self.reply
     }
 
+    #[inline(never)]
     fn log(&mut self, reading: u32, t: &twin::Transition) -> Answer {
         let t = firmware::Transition {
             time: t.time,
@@ -63,20 +66,22 @@ impl Side for firmware::Station {
             signals: t.signals,
             departure: t.departure,
         };
-        let outcome = unsafe { firmware::dultxibe_log(*self, reading, t) };
-        take(self, outcome)
+        unsafe { firmware::dultxibe_log(self, self.station, reading, t) };
+        self.reply
     }
 
+    #[inline(never)]
     fn frame(&mut self, reading: u32, octets: &[u8]) -> Answer {
-        let outcome =
-            unsafe { firmware::dultxibe_frame(*self, reading, &GATE, &CONSOLES[1], octets.as_ptr(), octets.len()) };
-        take(self, outcome)
+        let (start, length) = (octets.as_ptr(), octets.len());
+        unsafe { firmware::dultxibe_frame(self, self.station, reading, &GATE, &CONSOLES[1], start, length) };
+        self.reply
     }
 
+    #[inline(never)]
     fn report(&mut self, reading: u32, kind: u8, buffer: &mut [u8]) -> Answer {
         let (start, length) = (buffer.as_mut_ptr(), buffer.len());
-        let outcome = unsafe { firmware::dultxibe_report(*self, reading, &CONSOLES[1], kind, start, length) };
-        take(self, outcome)
+        unsafe { firmware::dultxibe_report(self, self.station, reading, &CONSOLES[1], kind, start, length) };
+        self.reply
     }
 
     fn read(octets: &[u8]) -> (usize, u64) {
@@ -321,7 +326,7 @@ fn median(times: &mut [f64]) -> f64 {
 }
 
 fn measure(case: &Case) -> (f64, f64, f64) {
-    let mut proved = Runner::<firmware::Station>::new(case);
+    let mut proved = Runner::<firmware::Outcome>::new(case);
     let mut twin = Runner::<twin::Station>::new(case);
     let (mut ours, mut theirs, mut ratios) = (vec![], vec![], vec![]);
     for batch in 0..BATCHES {
@@ -373,8 +378,8 @@ fn main() {
             let case = cases.iter().find(|case| case.name == name).expect("no such case");
             let calls = calls.parse().expect("calls: a number");
             match side {
-                "proved" => count::<firmware::Station>(case, calls, true),
-                "proved-none" => count::<firmware::Station>(case, calls, false),
+                "proved" => count::<firmware::Outcome>(case, calls, true),
+                "proved-none" => count::<firmware::Outcome>(case, calls, false),
                 "twin" => count::<twin::Station>(case, calls, true),
                 "twin-none" => count::<twin::Station>(case, calls, false),
                 _ => panic!("no such side"),
