@@ -1,30 +1,31 @@
 // Frame calls.
 use crate::Outcome;
 use crate::Station;
-use crate::stations::listed;
-use crate::stations::logged_in;
-use crate::stations::put_back;
-use crate::stations::refused_with;
-use crate::stations::requester_at;
-use crate::stations::slot_of;
-use crate::stations::ticked;
+use crate::stations::left_alone;
+use crate::stations::outcome_with;
+use events::Log;
 use octets::Kind;
 use octets::causes;
 use octets::is_group;
+use octets::least;
 use requesters::Answer;
 use requesters::Requester;
 use requesters::Served;
 use requests::Request;
 use requests::read_request;
+use slots::find;
 use slots::take_diagnostics;
 use slots::take_events;
+use slots::tick_requesters;
 use units::Milliseconds;
 ghost use mathlib.Core.Path.{_≡_};
 ghost use mathlib.Core.List.{List, []};
 ghost use lib.ListN.{length};
 ghost use Rattle.events.specs.declared.Entry.{Entry};
+ghost use Rattle.events.specs.Log.{logged as Log·logged};
 ghost use Rattle.model.specs.Model.{frame};
 ghost use Rattle.model.specs.Stations.{takeKind, takeRequest, step};
+ghost use Rattle.station.specs.Calls.{frameServed};
 ghost use Rattle.station.specs.Views.{view, viewOutcome};
 ghost use Rattle.requesters.specs.Views.{viewRequester, viewServed};
 
@@ -67,8 +68,36 @@ fn take_request(r: Requester, q: Request, logged: usize, reading: Milliseconds) 
     }
 }
 
+// How many entries are logged.
+fn logged_in(log: Log) -> usize
+    ensures { λ r. ⌜ r ≡ length (Log·logged log) ⌝ }
+{
+    least(log.count, 64)
+}
+
+// A frame from a source that found its requester, or did not.
+fn serve_frame(
+    r: Requester,
+    found: bool,
+    destination: [u8; 6],
+    o: &[u8],
+    logged: usize,
+    reading: Milliseconds,
+) -> Served
+    ensures { λ n. ⌜ ((log : List Entry) → length log ≡ logged → viewServed n [] ≡ frameServed (reading .0) log destination (now (o .entry)) found (viewRequester r)) ⌝ }
+{
+    if is_group(destination) {
+        return left_alone(r, causes::GROUP_DESTINATION);
+    }
+    if !found {
+        return left_alone(r, causes::UNKNOWN_REQUESTER);
+    }
+    take_request(r, read_request(o), logged, reading)
+}
+
 impl Station {
-    // A frame from a source to a destination.
+    // A frame from a source to a destination. One way out for all answers: each more costs a copy of
+    // the station.
     pub fn take_frame(
         self,
         reading: Milliseconds,
@@ -78,19 +107,17 @@ impl Station {
     ) -> Outcome
         ensures { λ r. ⌜ viewOutcome r [] ≡ step (view self) (frame (reading .0) destination source (now (o .entry))) ⌝ }
     {
-        let g = ticked(self, reading);
-        if is_group(destination) {
-            return refused_with(g, causes::GROUP_DESTINATION);
-        }
-        let i = slot_of(g, source);
-        if listed(g) <= i {
-            return refused_with(g, causes::UNKNOWN_REQUESTER);
-        }
-        let r = requester_at(g, i);
-        put_back(
-            g,
-            i,
-            take_request(r, read_request(o), logged_in(g), reading),
-        )
+        let log = self.log;
+        let all = self.requesters;
+        let i = find(all, self.count, source);
+        let found = i < least(self.count, 4);
+        let mut requesters = tick_requesters(all, reading);
+        let at = least(i, 3);
+        let r = requesters[at];
+        let s = serve_frame(r, found, destination, o, logged_in(log), reading);
+        let requester = s.requester;
+        let answer = s.answer;
+        requesters[at] = requester;
+        outcome_with(self, requesters, answer)
     }
 }

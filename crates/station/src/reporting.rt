@@ -1,23 +1,46 @@
 // Report calls.
 use crate::Outcome;
 use crate::Station;
-use crate::stations::listed;
-use crate::stations::put_back;
-use crate::stations::refused_with;
-use crate::stations::requester_at;
-use crate::stations::slot_of;
-use crate::stations::ticked;
+use crate::stations::left_alone;
+use crate::stations::outcome_with;
+use events::Log;
 use octets::Kind;
 use octets::causes;
+use octets::least;
+use requesters::Requester;
+use requesters::Served;
 use requesters::give_report;
+use slots::find;
+use slots::tick_requesters;
 use units::Milliseconds;
 ghost use mathlib.Core.Path.{_≡_};
 ghost use Rattle.model.specs.Model.{report as Model·report};
-ghost use Rattle.model.specs.Stations.{step};
+ghost use Rattle.events.specs.Log.{logged};
+ghost use Rattle.model.specs.Stations.{giveReport, step};
+ghost use Rattle.requesters.specs.Views.{viewIdentity, viewRequester, viewServed};
+ghost use Rattle.station.specs.Calls.{serveIf};
 ghost use Rattle.station.specs.Views.{view, viewOutcome};
 
+// A report for a requester that was found, or was not.
+fn serve_report(
+    r: Requester,
+    found: bool,
+    identity: &[u8; 252],
+    len: usize,
+    log: Log,
+    kind: Kind,
+    buf: &mut [u8],
+) -> Served
+    ensures { λ n. ⌜ viewServed n (now (buf .exit)) ≡ serveIf found (giveReport (viewIdentity len (now (identity .entry))) (logged log) kind (now (buf .entry))) (now (buf .entry)) (viewRequester r) ⌝ }
+{
+    if !found {
+        return left_alone(r, causes::UNKNOWN_REQUESTER);
+    }
+    give_report(r, identity, len, log, kind, buf)
+}
+
 impl Station {
-    // A report for a requester, into a lent buffer.
+    // A report for a requester, into a lent buffer. One way out, as for a frame.
     pub fn report(
         self,
         reading: Milliseconds,
@@ -27,15 +50,18 @@ impl Station {
     ) -> Outcome
         ensures { λ r. ⌜ viewOutcome r (now (buf .exit)) ≡ step (view self) (Model·report (reading .0) source kind (now (buf .entry))) ⌝ }
     {
-        let g = ticked(self, reading);
-        let i = slot_of(g, source);
-        if listed(g) <= i {
-            return refused_with(g, causes::UNKNOWN_REQUESTER);
-        }
-        let identity = g.identity;
-        let log = g.log;
-        let r = requester_at(g, i);
-        let s = give_report(r, &identity, g.length, log, kind, buf);
-        put_back(g, i, s)
+        let identity = self.identity;
+        let log = self.log;
+        let all = self.requesters;
+        let i = find(all, self.count, source);
+        let found = i < least(self.count, 4);
+        let mut requesters = tick_requesters(all, reading);
+        let at = least(i, 3);
+        let r = requesters[at];
+        let s = serve_report(r, found, &identity, self.length, log, kind, buf);
+        let requester = s.requester;
+        let answer = s.answer;
+        requesters[at] = requester;
+        outcome_with(self, requesters, answer)
     }
 }

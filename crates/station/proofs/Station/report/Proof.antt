@@ -1,66 +1,86 @@
 -- `station::Station::report` meets its contract.
 -- Assumes nothing.
-use mathlib.Core.Path.{ap, _∙_}
-use native.Mathlib.Omega.{arith}
-use Rattle.model.specs.Stations.{reportCall, act, readingOf, step}
-use Rattle.requesters.specs.Views.{viewRequester, viewServed}
+use mathlib.Core.Path.{_≡_, sym, ap, _∙_}
+use mathlib.Core.List.{List, [], map}
+use lib.Dec.{ltb}
+use lib.ListN.{length, take}
+use Rattle.laws.proofs.Arrays.{length-mapped}
+use Rattle.model.specs.Stations.{tick, tickRequester, giveReport, reportCall, act, readingOf, step}
+use Rattle.requesters.specs.Views.{viewRequester}
 use Rattle.station.specs.Views.{view}
-use Rattle.station.proofs.CallLaws.{call-unlisted, call-served}
+use Rattle.station.proofs.StationLaws.{views-within}
+use Rattle.station.proofs.CallLaws.{place-ticked, call-served}
 use borrow.Author.Needs.{needs}
 use Rattle.station.proofs.Station.report.Statement.{statement}
 use Rattle.station.proofs.Station.report.Tie as tie
+use Rattle.octets.proofs.least.Reads as least-reads
+use Rattle.slots.proofs.find.Reads as find-reads
+use Rattle.slots.proofs.tick_requesters.Reads as tick-requesters-reads
+use Rattle.station.proofs.reporting.serve_report.Reads as serve-report-reads
+use Rattle.station.proofs.stations.outcome_with.Reads as outcome-with-reads
 
-ticked-requires : tie.Need-ticked-requires
-ticked-requires c κs = search needs
+find-requires : tie.Need-find-requires
+find-requires c κs = search needs
 
-slot-of-requires : tie.Need-slot-of-requires
-slot-of-requires c κs = search needs
+least-requires : tie.Need-least-requires
+least-requires c κs = search needs
 
-listed-requires : tie.Need-listed-requires
-listed-requires c κs = search needs
+tick-requesters-requires : tie.Need-tick-requesters-requires
+tick-requesters-requires c κs = search needs
 
-refused-with-requires : tie.Need-refused-with-requires
-refused-with-requires c κs = search needs
+least-requires-2 : tie.Need-least-requires-2
+least-requires-2 c κs = search needs
 
-returns : tie.Need-returns
-unfolding step act readingOf reportCall
-returns c =
-    let a = c .before .before .before .before .before .before .args in let g = view (c .before .before .before .before .ticked .result) in
-    c .refused-with .ensures _
-    ∙ call-unlisted (a .source) _ (a .buf .now) g (c .before .before .before .slot-of .result) (c .before .before .before .slot-of .ensures) (omega (arith, c .before .before .listed .ensures, c .before .if1 .taken))
-    ∙ ap (reportCall (a .source) (a .kind) (a .buf .now)) (c .before .before .before .before .ticked .ensures)
+mul-r : tie.Need-mul-r
+mul-r c = search needs
 
-requester-at-requires : tie.Need-requester-at-requires
-requester-at-requires c κs = omega (arith, c .before .before .before .listed .ensures, c .before .before .if1 .left)
+array-copy-out-r : tie.Need-array-copy-out-r
+array-copy-out-r c = search needs
 
-give-report-requires : tie.Need-give-report-requires
-give-report-requires c κs = search needs
+serve-report-requires : tie.Need-serve-report-requires
+serve-report-requires c κs = search needs
 
-put-back-requires : tie.Need-put-back-requires
-put-back-requires c κs = omega (arith, c .before .before .before .before .before .before .before .before .before .listed .ensures, c .before .before .before .before .before .before .before .before .if1 .left)
+mul-requesters : tie.Need-mul-requesters
+mul-requesters c = search needs
+
+array-set-from-requesters : tie.Need-array-set-from-requesters
+array-set-from-requesters c = search needs
+
+outcome-with-requires : tie.Need-outcome-with-requires
+outcome-with-requires c κs = search needs
 
 same-length : tie.Need-same-length
 same-length c = search needs
 
-returns-2 : tie.Need-returns-2
-unfolding step act readingOf reportCall view
-returns-2 c =
-    let a = c .before .before .before .before .before .before .before .before .before .before .before .before .before .before .args in let g = view (c .before .before .before .before .before .before .before .before .before .before .before .before .ticked .result) in let r = viewRequester (c .before .before .before .before .before .before .requester-at .result) in
-    c .put-back .ensures _
-    ∙ call-served (a .source) _ (a .buf .now) g (c .before .before .before .before .before .before .before .before .before .before .before .slot-of .result) (c .before .before .before .before .before .before .before .before .before .before .before .slot-of .ensures) r (viewServed (c .before .before .before .give-report .result) _) (c .before .before .before .before .before .before .requester-at .ensures) (c .before .before .before .give-report .ensures)
-    ∙ ap (reportCall (a .source) (a .kind) (a .buf .now)) (c .before .before .before .before .before .before .before .before .before .before .before .before .ticked .ensures)
+returns : tie.Need-returns
+unfolding step act readingOf reportCall tick view
+returns c =
+    let a = c .before .before .before .before .before .before .before .before .before .before .before .before .before .before .before .before .args in
+    let t = a .reading .0 in
+    let g = tick t (view (a .self)) in
+    let rs = c .before .before .before .before .before .before .before .before .before .tick-requesters .result in
+    let four : length rs ≡ 4 = search (needs, length-mapped, c .before .before .before .before .before .before .before .before .before .tick-requesters .ok) in
+    let lists = views-within (tickRequester t) (a .self .count) (a .self .requesters) rs (c .before .before .before .before .before .before .before .before .before .tick-requesters .ensures) in
+    let i = c .before .before .before .before .before .before .before .before .before .before .before .find .result in
+    let is = c .before .before .before .before .before .before .before .before .before .before .before .find .ensures ∙ place-ticked (a .source) t (map viewRequester (take (a .self .count) (a .self .requesters))) in
+    c .outcome-with .ensures _
+    ∙ rw (c .before .before .before .before .before .before .before .before .least2 .ensures)
+    (call-served g (a .self .count) rs four lists i (a .source) (giveReport (g .identity) (g .log) (a .kind) (a .buf .now)) (a .buf .now) is (c .before .before .before .before .serve-report .result) _ _ (ap (ltb i) (c .before .before .before .before .before .before .before .before .before .before .least .ensures))
+    (rw (← c .before .before .before .before .before .before .before .before .least2 .ensures) (c .before .before .before .before .serve-report .ensures)))
 
 pub report-spec : {M : Type 1} → statement M
 report-spec =
     tie.close
     (tie.spec
-    ticked-requires
-    slot-of-requires
-    listed-requires
-    refused-with-requires
-    returns
-    requester-at-requires
-    give-report-requires
-    put-back-requires
+    find-requires
+    least-requires
+    tick-requesters-requires
+    least-requires-2
+    mul-r
+    array-copy-out-r
+    serve-report-requires
+    mul-requesters
+    array-set-from-requesters
+    outcome-with-requires
     same-length
-    returns-2)
+    returns)

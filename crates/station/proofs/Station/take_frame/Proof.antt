@@ -1,91 +1,87 @@
 -- `station::Station::take_frame` meets its contract.
 -- Assumes nothing.
-use mathlib.Core.Path.{sym, ap, _∙_}
-use native.Mathlib.Omega.{arith}
-use mathlib.Core.List.{[]}
-use Rattle.requests.specs.declared.Request.{Request}
-use Rattle.model.specs.Stations.{frameCall, takeRequest, act, readingOf, step}
-use Rattle.requesters.specs.Views.{viewRequester, viewServed}
+use mathlib.Core.Path.{_≡_, sym, ap, _∙_}
+use mathlib.Core.List.{List, [], map}
+use lib.Dec.{ltb}
+use lib.ListN.{length, take}
+use Rattle.laws.proofs.Arrays.{length-mapped}
+use Rattle.model.specs.Stations.{tick, tickRequester, act, readingOf, step}
+use Rattle.requesters.specs.Views.{viewRequester}
 use Rattle.station.specs.Views.{view}
-use Rattle.station.proofs.CallLaws.{call-unlisted, call-served, frame-group, frame-other}
+use Rattle.station.proofs.StationLaws.{views-within}
+use Rattle.station.proofs.CallLaws.{place-ticked, frame-served}
 use borrow.Author.Needs.{needs}
 use Rattle.station.proofs.Station.take_frame.Statement.{statement}
 use Rattle.station.proofs.Station.take_frame.Tie as tie
+use Rattle.octets.proofs.least.Reads as least-reads
+use Rattle.slots.proofs.find.Reads as find-reads
+use Rattle.slots.proofs.tick_requesters.Reads as tick-requesters-reads
+use Rattle.station.proofs.frames.serve_frame.Reads as serve-frame-reads
+use Rattle.station.proofs.stations.outcome_with.Reads as outcome-with-reads
 
-ticked-requires : tie.Need-ticked-requires
-ticked-requires c κs = search needs
+find-requires : tie.Need-find-requires
+find-requires c κs = search needs
 
-is-group-requires : tie.Need-is-group-requires
-is-group-requires c κs = search needs
+least-requires : tie.Need-least-requires
+least-requires c κs = search needs
 
-refused-with-requires : tie.Need-refused-with-requires
-refused-with-requires c κs = search needs
+tick-requesters-requires : tie.Need-tick-requesters-requires
+tick-requesters-requires c κs = search needs
 
-returns : tie.Need-returns
-unfolding step act readingOf
-returns c =
-    let a = c .before .before .before .before .before .args in
-    c .refused-with .ensures [] ∙ frame-group (a .reading .0) (a .destination) (a .source) (a .o .now) (view (c .before .before .before .ticked .result)) (sym (c .before .before .is-group .ensures) ∙ c .before .if1 .taken)
-    ∙ ap (frameCall (a .reading .0) (a .destination) (a .source) (a .o .now)) (c .before .before .before .ticked .ensures)
+least-requires-2 : tie.Need-least-requires-2
+least-requires-2 c κs = search needs
 
-slot-of-requires : tie.Need-slot-of-requires
-slot-of-requires c κs = search needs
+mul-r : tie.Need-mul-r
+mul-r c = search needs
 
-listed-requires : tie.Need-listed-requires
-listed-requires c κs = search needs
-
-refused-with-requires-2 : tie.Need-refused-with-requires-2
-refused-with-requires-2 c κs = search needs
-
-returns-2 : tie.Need-returns-2
-unfolding step act readingOf
-returns-2 c =
-    let a = c .before .before .before .before .before .before .before .before .args in let g = view (c .before .before .before .before .before .before .ticked .result) in
-    c .refused-with2 .ensures []
-    ∙ call-unlisted (a .source) _ [] g (c .before .before .before .slot-of .result) (c .before .before .before .slot-of .ensures) (omega (arith, c .before .before .listed .ensures, c .before .if2 .taken))
-    ∙ frame-other (a .reading .0) (a .destination) (a .source) (a .o .now) g (sym (c .before .before .before .before .before .is-group .ensures) ∙ c .before .before .before .before .if1 .left)
-    ∙ ap (frameCall (a .reading .0) (a .destination) (a .source) (a .o .now)) (c .before .before .before .before .before .before .ticked .ensures)
-
-requester-at-requires : tie.Need-requester-at-requires
-requester-at-requires c κs = omega (arith, c .before .listed .ensures, c .if2 .left)
-
-read-request-requires : tie.Need-read-request-requires
-read-request-requires c κs = search needs
+array-copy-out-r : tie.Need-array-copy-out-r
+array-copy-out-r c = search needs
 
 logged-in-requires : tie.Need-logged-in-requires
 logged-in-requires c κs = search needs
 
-take-request-requires : tie.Need-take-request-requires
-take-request-requires c κs = search needs
+serve-frame-requires : tie.Need-serve-frame-requires
+serve-frame-requires c κs = search needs
 
-put-back-requires : tie.Need-put-back-requires
-put-back-requires c κs = omega (arith, c .before .before .before .before .before .listed .ensures, c .before .before .before .before .if2 .left)
+mul-requesters : tie.Need-mul-requesters
+mul-requesters c = search needs
 
-returns-3 : tie.Need-returns-3
-unfolding step act readingOf
-returns-3 c =
-    let a = c .before .before .before .before .before .before .before .before .before .before .before .before .args in let g = view (c .before .before .before .before .before .before .before .before .before .before .ticked .result) in let r = viewRequester (c .before .before .before .before .requester-at .result) in
-    let e = c .before .take-request .ensures (g .log) (sym (c .before .before .logged-in .ensures)) ∙ ap (λ (q : Request). takeRequest (a .reading .0) (g .log) q r) (c .before .before .before .read-request .ensures) in
-    c .put-back .ensures []
-    ∙ call-served (a .source) _ [] g (c .before .before .before .before .before .before .before .slot-of .result) (c .before .before .before .before .before .before .before .slot-of .ensures) r (viewServed (c .before .take-request .result) []) (c .before .before .before .before .requester-at .ensures) e
-    ∙ frame-other (a .reading .0) (a .destination) (a .source) (a .o .now) g (sym (c .before .before .before .before .before .before .before .before .before .is-group .ensures) ∙ c .before .before .before .before .before .before .before .before .if1 .left)
-    ∙ ap (frameCall (a .reading .0) (a .destination) (a .source) (a .o .now)) (c .before .before .before .before .before .before .before .before .before .before .ticked .ensures)
+array-set-from-requesters : tie.Need-array-set-from-requesters
+array-set-from-requesters c = search needs
+
+outcome-with-requires : tie.Need-outcome-with-requires
+outcome-with-requires c κs = search needs
+
+returns : tie.Need-returns
+unfolding step act readingOf tick view
+returns c =
+    let a = c .before .before .before .before .before .before .before .before .before .before .before .before .args in
+    let t = a .reading .0 in
+    let g = tick t (view (a .self)) in
+    let rs = c .before .before .before .before .before .before .tick-requesters .result in
+    let four : length rs ≡ 4 = search (needs, length-mapped) in
+    let lists = views-within (tickRequester t) (a .self .count) (a .self .requesters) rs (c .before .before .before .before .before .before .tick-requesters .ensures) in
+    let i = c .before .before .before .before .before .before .before .before .find .result in
+    let is = c .before .before .before .before .before .before .before .before .find .ensures ∙ place-ticked (a .source) t (map viewRequester (take (a .self .count) (a .self .requesters))) in
+    let logs = sym (c .before .before .before .logged-in .ensures) in
+    c .outcome-with .ensures []
+    ∙ rw (c .before .before .before .before .before .least2 .ensures)
+    (frame-served t (a .destination) (a .source) (a .o .now) g (a .self .count) rs four lists i is (c .before .before .serve-frame .result) _ (ap (ltb i) (c .before .before .before .before .before .before .before .least .ensures))
+    (rw (← c .before .before .before .before .before .least2 .ensures) (c .before .before .serve-frame .ensures (g .log) logs)))
 
 pub take-frame-spec : {M : Type 1} → statement M
 take-frame-spec =
     tie.close
     (tie.spec
-    ticked-requires
-    is-group-requires
-    refused-with-requires
-    returns
-    slot-of-requires
-    listed-requires
-    refused-with-requires-2
-    returns-2
-    requester-at-requires
-    read-request-requires
+    find-requires
+    least-requires
+    tick-requesters-requires
+    least-requires-2
+    mul-r
+    array-copy-out-r
     logged-in-requires
-    take-request-requires
-    put-back-requires
-    returns-3)
+    serve-frame-requires
+    mul-requesters
+    array-set-from-requesters
+    outcome-with-requires
+    returns)

@@ -1,21 +1,19 @@
--- `station::stations::logged_in` meets its contract.
+-- `station::frames::logged_in` meets its contract.
 -- Assumes nothing.
 use mathlib.Core.Path.{_≡_, sym, _∙_}
 use Rattle.laws.proofs.Arrays.{length-mapped}
 use lib.ListN.{length}
-use Rattle.station.specs.Views.{view}
 use Rattle.events.proofs.LogLaws.{length-logged}
 use borrow.Author.Needs.{needs}
-use Rattle.station.proofs.stations.logged_in.Statement.{statement}
-use Rattle.station.proofs.stations.logged_in.Tie as tie
+use Rattle.station.proofs.frames.logged_in.Statement.{statement}
+use Rattle.station.proofs.frames.logged_in.Tie as tie
 
 least-requires : tie.Need-least-requires
 least-requires c κs = search needs
 
 returns : tie.Need-returns
-unfolding view
 returns c =
-    let size : length (c .before .before .args .g .log .entries) ≡ 64 = search (needs, length-mapped) in c .least .ensures ∙ sym (length-logged (c .before .before .args .g .log) size)
+    let size : length (c .before .args .log .entries) ≡ 64 = search (needs, length-mapped) in c .least .ensures ∙ sym (length-logged (c .before .args .log) size)
 
 pub logged-in-spec : {M : Type 1} → statement M
 logged-in-spec = tie.close (tie.spec least-requires returns)
