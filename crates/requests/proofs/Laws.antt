@@ -1,26 +1,28 @@
--- Laws of the walk over elements. A step that is not refused moves on, not past the end, and keeps to eight elements.
+-- Laws of the walk over elements: the number of subelements, tokens, and a turn of the walk's loop.
 -- Assumes nothing.
 use Prim.Native.Nat.{ℕ, _+_, _-_, _≤_, _<_}
-use mathlib.Core.Path.{_≡_}
-use mathlib.Core.Bool.{true, false}
+use mathlib.Core.Path.{_≡_, refl, ap, _∙_}
+use mathlib.Core.Bool.{Bool, true, false}
 use mathlib.Core.List.{List}
-use lib.ListN.{length, getD, take, drop, drop-of-length-le}
-use borrow.Author.Tests.{eq-eqb, ne-eqb, eqb-true, eqb-false, leb-false, not-true}
+use lib.ListN.{length, getD, set, take, drop, length-set, drop-of-length-le}
+use borrow.Author.Tests.{eq-eqb, ne-eqb, eqb-true, eqb-false, le-leb, lt-leb, lt-ltb, le-ltb}
 use native.Mathlib.Omega.{arith}
 use Rattle.laws.specs.Choice.{if_then_else_}
 use Rattle.laws.proofs.Choice.{either}
+use Rattle.laws.proofs.Walk.{Rest, start, last, again, done, go-on, stop-refused, stop-end, keeps-while, and-first}
+use Rattle.laws.proofs.Arrays.{take-next}
 use Rattle.octets.specs.declared.numbers.Kind.{Kind}
 use Rattle.octets.specs.declared.numbers.Kind.the-variants.{Event, Diagnostic}
+use Rattle.octets.specs.Refusals.{noRefusal, elementEdge, ninthElement, elementLength, elementToken}
+use Rattle.octets.specs.Numbers.{requestId}
+use Rattle.octets.specs.Elements.{pieceEnd}
 use Rattle.octets.proofs.ElementLaws.{Ends, piece-ends}
 use Rattle.subelements.specs.declared.Condition.{Condition}
 use Rattle.subelements.specs.declared.Subelements.{Subelements}
-use Rattle.octets.specs.Refusals.{noRefusal}
 use Rattle.subelements.specs.Subelements.{walked, refusedWalk, past, wholeStep, step, walk}
 use Rattle.requests.specs.declared.Element.{Element}
 use Rattle.requests.specs.declared.Elements.{Elements}
-use Rattle.laws.proofs.Walk.{keeps-while, and-first}
-use Rattle.laws.proofs.Arrays.{take-next}
-use Rattle.requests.specs.Elements.{pastElements, subelementsOf, hasToken, refusedElements, withElement, ownStep, elementStep}
+use Rattle.requests.specs.Elements.{pastElements, leastBody, subelementsOf, elementOf, hasToken, badToken, started, refusedElements, withElement, ownStep, elementStep, more, walkElements}
 
 -- ---- the number of subelements: an element of at most 255 octets has fewer than 256
 
@@ -76,40 +78,82 @@ module _ (es : List Element) (n token i : ℕ) where
   unfolding hasToken
   token-none h = rw (drop-of-length-le (take n es) {i = i} h)
 
--- ---- a step
+-- ---- a turn of the walk's loop, by the tests that lead through it
 
-pub record Moved (s : List ℕ) (w r : Elements) : Type 0 where
-  pub on : w .at < r .at
-  pub within : r .at ≤ length s
-  pub few : r .count ≤ 8
+-- what holds before each turn: not refused, eight places, and what is left of the walk gives what the whole walk gives
+pub record Walking (s : List ℕ) (kind : Kind) (w : Elements) : Type 0 where
+  pub sound : w .refusal ≡ noRefusal
+  pub eight : length (w .elements) ≡ 8
+  pub rest : Rest (more s) (elementStep s kind) (walkElements s kind) (length s - w .at) w
 
-abbrev Moves : List ℕ → Elements → Elements → Type 0
-Moves s w r = w .count ≤ 8 → r .refusal .number ≡ 0 → Moved s w r
+pub walking-start : (s : List ℕ) (kind : Kind) → Walking s kind (started noRefusal 3)
+unfolding walkElements
+walking-start s kind = record { sound = refl; eight = refl; rest = start _ _ (length s) _ _ (omega arith) }
 
-refused-moves : (s : List ℕ) (w : Elements) (n p : ℕ) → 0 < n → Moves s w (refusedElements n p)
-refused-moves s w n p h q e = absurd (omega arith)
+module _ {s : List ℕ} {kind : Kind} {w : Elements} (i : Walking s kind w) where
+  unrefused : w .refusal .number ≡ 0
+  unrefused = ap (λ r. r .number) (i .sound)
 
-with-moves : (s : List ℕ) (kind : Kind) (w : Elements) (end : ℕ) (subs : Subelements) → Ends s (w .at) (length s) end → w .count < 8 → Moves s w (withElement s kind w end subs)
-unfolding withElement
-with-moves s kind w end subs h k =
-    either (Moves s w) _ _ _ (λ b q e. absurd (eqb-false (subs .refusal .number) 0 (not-true _ b) e))
-    (λ _ q e. record { on = omega (arith, h .is); within = h .within; few = omega arith })
+  pub walking-end : length s ≤ w .at → w ≡ walkElements s kind
+  walking-end h = done (i .rest) (stop-end _ _ _ unrefused h)
 
-own-moves : (s : List ℕ) (kind : Kind) (w : Elements) (end : ℕ) → Ends s (w .at) (length s) end → Moves s w (ownStep s kind w end)
-unfolding ownStep
-own-moves s kind w end h =
-    either (Moves s w) _ _ _ (λ _. refused-moves s w 9 _ (omega arith))
-    (λ k. either (Moves s w) _ _ _ (λ _. refused-moves s w 5 _ (omega arith))
-    (λ _. either (Moves s w) _ _ _ (λ _. refused-moves s w 6 _ (omega arith))
-    (λ _. with-moves s kind w end _ h (leb-false _ _ k))))
+  module _ (h : w .at < length s) {end : ℕ} (e : end ≡ pieceEnd s (w .at) (length s)) where
+    refuses : {r : Elements} (n p : ℕ) → (n ≡ 0 → ⊥) → r ≡ refusedElements n p → refusedElements n p ≡ elementStep s kind w → r ≡ walkElements s kind
+    refuses n p z q f = q ∙ last (i .rest) (go-on _ _ _ unrefused h) (omega arith) f (stop-refused n 0 (length s) z)
 
-step-moves : (s : List ℕ) (kind : Kind) (w : Elements) → Moves s w (elementStep s kind w)
-unfolding elementStep
-step-moves s kind w =
-    either (Moves s w) _ _ _ (λ _. refused-moves s w 4 _ (omega arith))
-    (λ h. let e = piece-ends s (w .at) (length s) (eqb-false _ _ h) in
-    either (Moves s w) _ _ _ (λ _ q z. record { on = omega (arith, e .is); within = e .within; few = q })
-    (λ _. own-moves s kind w _ e))
+    pub refused-edge : {r : Elements} → end ≡ 0 → r ≡ refusedElements elementEdge (w .at) → r ≡ walkElements s kind
+    unfolding elementStep if_then_else_
+    refused-edge z q = refuses 4 _ (λ x. omega arith) q (rw (← e, eq-eqb end 0 z))
 
-pub moved : {s : List ℕ} (kind : Kind) {w r : Elements} → r ≡ elementStep s kind w → w .count ≤ 8 → r .refusal .number ≡ 0 → Moved s w r
-moved {s} kind {w} e q z = rw e (step-moves s kind w q (rw e at z))
+    module _ (z : end ≡ 0 → ⊥) where
+      ends : Ends s (w .at) (length s) end
+      ends = rw e (piece-ends s (w .at) (length s) (λ y. z (e ∙ y)))
+
+      pub moves : length s - end < length s - w .at
+      moves = omega (arith, ends .is)
+
+      pub within : {n : ℕ} → n ≡ getD s (w .at + 1) 0 → n < 256 → end ≤ w .at + 257
+      within m x = omega (arith, m, ends .is)
+
+      goes : (k : ℕ) (es : List Element) → length es ≡ 8 → record { refusal = noRefusal; at = end; count = k; elements = es } ≡ elementStep s kind w
+          → Walking s kind (record { refusal = w .refusal; at = end; count = k; elements = es })
+      goes k es l q = rw (i .sound) (record { sound = refl; eight = l; rest = again _ (i .rest) (go-on _ _ _ unrefused h) moves q })
+
+      module _ {id own : ℕ} (d : id ≡ getD s (w .at) 0) (o : own ≡ requestId kind) where
+        pub passed-over : (id ≡ own → ⊥) → Walking s kind (record { refusal = w .refusal; at = end; count = w .count; elements = w .elements })
+        unfolding elementStep if_then_else_
+        passed-over y = goes (w .count) (w .elements) (i .eight) (rw (← e, ne-eqb end 0 z, ← d, ← o, ne-eqb id own y))
+
+        module _ (y : id ≡ own) where
+          owns : ownStep s kind w end ≡ elementStep s kind w
+          unfolding elementStep if_then_else_
+          owns = rw (← e, ne-eqb end 0 z, ← d, ← o, eq-eqb id own y)
+
+          pub refused-ninth : {r : Elements} → 8 ≤ w .count → r ≡ refusedElements ninthElement (w .at) → r ≡ walkElements s kind
+          unfolding ownStep if_then_else_
+          refused-ninth k q = refuses 9 _ (λ x. omega arith) q (rw (← owns, le-leb 8 (w .count) k))
+
+          module _ (k : w .count < 8) {n least : ℕ} (m : n ≡ getD s (w .at + 1) 0) (b : least ≡ leastBody kind) where
+            pub refused-length : {r : Elements} → n < least → r ≡ refusedElements elementLength (w .at) → r ≡ walkElements s kind
+            unfolding ownStep if_then_else_
+            refused-length l q = refuses 5 _ (λ x. omega arith) q (rw (← owns, lt-leb 8 (w .count) k, ← m, ← b, lt-ltb n least l))
+
+            module _ (l : least ≤ n) {t : ℕ} {bad : Bool} (g : t ≡ getD s (w .at + 2) 0) (f : bad ≡ badToken kind (take (w .count) (w .elements)) t) where
+              pub refused-token : {r : Elements} → bad ≡ true → r ≡ refusedElements elementToken (w .at) → r ≡ walkElements s kind
+              unfolding ownStep if_then_else_
+              refused-token x q = refuses 6 _ (λ x. omega arith) q (rw (← owns, lt-leb 8 (w .count) k, ← m, ← b, le-ltb n least l, ← g, ← f, x))
+
+              module _ (x : bad ≡ false) {subs : Subelements} (u : subs ≡ subelementsOf s kind (w .at) end) where
+                with-subelements : withElement s kind w end subs ≡ elementStep s kind w
+                unfolding ownStep if_then_else_
+                with-subelements = rw (← owns, lt-leb 8 (w .count) k, ← m, ← b, le-ltb n least l, ← g, ← f, x, ← u)
+
+                pub refused-subelements : {r : Elements} → (subs .refusal .number ≡ 0 → ⊥) → r ≡ refusedElements (subs .refusal .number) (subs .refusal .place) → r ≡ walkElements s kind
+                unfolding withElement if_then_else_
+                refused-subelements v q = refuses _ _ v q (rw (← with-subelements, ne-eqb (subs .refusal .number) 0 v))
+
+                pub added : {a : Element} → subs .refusal .number ≡ 0 → a ≡ elementOf s kind (w .at) subs
+                    → Walking s kind (record { refusal = w .refusal; at = end; count = w .count + 1; elements = set (w .elements) (w .count) a })
+                unfolding withElement if_then_else_
+                added v q =
+                    rw q (goes (w .count + 1) (set (w .elements) (w .count) _) (length-set (w .elements) (w .count) _ ∙ i .eight) (rw (← with-subelements, eq-eqb (subs .refusal .number) 0 v)))

@@ -17,7 +17,7 @@ ghost use Prim.Native.Nat.{_+_, _≤_, _<_};
 ghost use lib.ListN.{length, take};
 ghost use Rattle.octets.specs.Refusals.{noRefusal};
 ghost use Rattle.subelements.specs.Subelements.{walked};
-ghost use Rattle.requests.specs.Elements.{leastBody, limitAt, timeoutAt, subelementsOf, elementOf, hasToken, zeroToken, badToken, started, refusedElements, withElement, ownStep, elementStep, walkElements};
+ghost use Rattle.requests.specs.Elements.{leastBody, limitAt, timeoutAt, subelementsOf, elementOf, hasToken, zeroToken, badToken, started, refusedElements, walkElements};
 ghost use Rattle.requests.specs.Requests.{refusedRequest, lacksElement, requestOf, readKind, readRequest};
 
 // The most elements that a request has.
@@ -201,77 +201,39 @@ fn refused(number: u8, place: usize) -> Elements
     start(Refusal::new(number, place), 0)
 }
 
-// The refusal of the element's subelements, or one element more.
-fn with_element(s: &[u8], kind: Kind, w: Elements, end: usize, subs: Subelements) -> Elements
-    requires { ⌜ (w .count < 8) × (w .at < 2304) × (subs .count < 256) ⌝ }
-    ensures { λ r. ⌜ r ≡ withElement (now (s .entry)) kind w end subs ⌝ }
-{
-    if subs.refusal.number != 0 {
-        return refused(subs.refusal.number, subs.refusal.place);
-    }
-    let n = w.count;
-    let mut elements = w.elements;
-    elements[n] = element_of(s, kind, w.at, subs);
-    Elements {
-        refusal: Refusal::none(),
-        at: end,
-        count: n + 1,
-        elements,
-    }
-}
-
-// Behind the whole element of the frame's own ID at w.at, which ends at end.
-fn own_step(s: &[u8], kind: Kind, w: Elements, end: usize) -> Elements
-    requires { ⌜ (w .at < 2304) × (end ≤ w .at + 257) × (w .count ≤ 8) ⌝ }
-    ensures { λ r. ⌜ r ≡ ownStep (now (s .entry)) kind w end ⌝ }
-{
-    let at = w.at;
-    let count = w.count;
-    if MOST_ELEMENTS <= count {
-        return refused(causes::NINTH_ELEMENT, at);
-    }
-    if size(s, at + 1) < least_body(kind) {
-        return refused(causes::ELEMENT_LENGTH, at);
-    }
-    let elements = w.elements;
-    if bad_token(kind, elements, count, octet(s, at + 2)) {
-        return refused(causes::ELEMENT_TOKEN, at);
-    }
-    with_element(s, kind, w, end, subelements_of(s, kind, at, end))
-}
-
-// Behind the element at w.at.
-fn element_step(s: &[u8], kind: Kind, w: Elements) -> Elements
-    requires { ⌜ (w .at < 2304) × (w .count ≤ 8) ⌝ }
-    ensures { λ r. ⌜ r ≡ elementStep (now (s .entry)) kind w ⌝ }
-{
-    let at = w.at;
-    let end = piece_end(s, at, s.len());
-    if end == 0 {
-        return refused(causes::ELEMENT_EDGE, at);
-    }
-    if octet(s, at) != kind.request_id() {
-        let elements = w.elements;
-        return Elements {
-            refusal: Refusal::none(),
-            at: end,
-            count: w.count,
-            elements,
-        };
-    }
-    own_step(s, kind, w, end)
-}
-
+// The elements behind the three octets of the header.
 fn walk_elements(s: &[u8], kind: Kind) -> Elements
     requires { ⌜ length (now s) ≤ 2304 ⌝ }
     ensures { λ r. ⌜ r ≡ walkElements (now (s .entry)) kind ⌝ }
 {
     let mut w = start(Refusal::none(), 3);
     while w.at < s.len() {
-        w = element_step(s, kind, w);
-        if w.refusal.number != 0 {
-            return w;
+        let at = w.at;
+        let end = piece_end(s, at, s.len());
+        if end == 0 {
+            return refused(causes::ELEMENT_EDGE, at);
         }
+        w.at = end;
+        if octet(s, at) != kind.request_id() {
+            continue;
+        }
+        let n = w.count;
+        if MOST_ELEMENTS <= n {
+            return refused(causes::NINTH_ELEMENT, at);
+        }
+        if size(s, at + 1) < least_body(kind) {
+            return refused(causes::ELEMENT_LENGTH, at);
+        }
+        let es = w.elements;
+        if bad_token(kind, es, n, octet(s, at + 2)) {
+            return refused(causes::ELEMENT_TOKEN, at);
+        }
+        let subs = subelements_of(s, kind, at, end);
+        if subs.refusal.number != 0 {
+            return refused(subs.refusal.number, subs.refusal.place);
+        }
+        w.elements[n] = element_of(s, kind, at, subs);
+        w.count = n + 1;
     }
     w
 }

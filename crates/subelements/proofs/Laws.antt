@@ -1,44 +1,80 @@
--- Laws of the walk over subelements. A step that is not refused moves on, and not past the end.
+-- Laws of the walk over subelements: a turn of its loop, by the tests that lead through it.
 -- Assumes nothing.
-use Prim.Native.Nat.{ℕ, _-_, _≤_, _<_}
-use mathlib.Core.Path.{_≡_}
+use Prim.Native.Nat.{ℕ, _+_, _-_, _≤_, _<_}
+use mathlib.Core.Path.{_≡_, refl, ap, _∙_}
+use mathlib.Core.Bool.{true, false}
 use mathlib.Core.List.{List}
-use borrow.Author.Tests.{eqb-false}
+use lib.ListN.{length, getD, set, length-set}
+use borrow.Author.Tests.{eq-eqb, ne-eqb, le-leb, lt-leb}
 use native.Mathlib.Omega.{arith}
-use Rattle.laws.proofs.Choice.{either}
+use Rattle.laws.specs.Choice.{if_then_else_}
+use Rattle.laws.proofs.Walk.{Rest, start, last, again, done, go-on, stop-refused, stop-end}
+use Rattle.octets.specs.Elements.{pieceEnd}
+use Rattle.octets.specs.Refusals.{noRefusal, subelement, repeatedSubelement}
 use Rattle.octets.proofs.ElementLaws.{Ends, piece-ends}
 use Rattle.subelements.specs.declared.Condition.{Condition}
 use Rattle.subelements.specs.declared.Subelements.{Subelements}
-use Rattle.subelements.specs.Subelements.{refusedWalk, past, wholeStep, step}
+use Rattle.subelements.specs.Subelements.{lengthOf, bodyAt, pastFilter, walked, refusedWalk, past, wholeStep, step, more, walk}
 
--- r is behind w, within the end, and its position bounds its count
-pub record Moved (end : ℕ) (w r : Subelements) : Type 0 where
-  pub on : w .at < r .at
-  pub within : r .at ≤ end
-  pub counted : r .count ≤ r .at
+-- what holds before each turn: not refused, the position bounds the count, and what is left of the walk gives what the whole walk gives
+pub record Walking (s : List ℕ) (known from end : ℕ) (w : Subelements) : Type 0 where
+  pub sound : w .refusal ≡ noRefusal
+  pub counted : w .count ≤ w .at
+  pub five : length (w .filter) ≡ 5
+  pub rest : Rest (more end) (step s known end) (walk s known from end) (end - w .at) w
 
-abbrev Moves : ℕ → Subelements → Subelements → Type 0
-Moves end w r = w .count ≤ w .at → r .refusal .number ≡ 0 → Moved end w r
+pub walking-start : (s : List ℕ) (known from end : ℕ) → Walking s known from end (walked noRefusal from)
+unfolding walk
+walking-start s known from end = record { sound = refl; counted = omega arith; five = refl; rest = start _ _ end _ _ (omega arith) }
 
-refused-moves : (end : ℕ) (w : Subelements) (n p : ℕ) → 0 < n → Moves end w (refusedWalk n p)
-refused-moves end w n p h q e = absurd (omega arith)
+module _ {s : List ℕ} {known from end : ℕ} {w : Subelements} (i : Walking s known from end w) where
+  unrefused : w .refusal .number ≡ 0
+  unrefused = ap (λ r. r .number) (i .sound)
 
-past-moves : (s : List ℕ) (end : ℕ) (w : Subelements) (next : ℕ) (f : List Condition) → Ends s (w .at) end next → Moves end w (past w next f)
-past-moves s end w next f h q e = record { on = omega (arith, h .is); within = h .within; counted = omega (arith, h .is) }
+  pub walking-end : end ≤ w .at → w ≡ walk s known from end
+  walking-end h = done (i .rest) (stop-end _ _ _ unrefused h)
 
-whole-moves : (s : List ℕ) (known end : ℕ) (w : Subelements) (next : ℕ) → Ends s (w .at) end next → Moves end w (wholeStep s known w next)
-unfolding wholeStep
-whole-moves s known end w next h =
-    either (Moves end w) _ _ _ (λ _. past-moves s end w next _ h)
-    (λ _. either (Moves end w) _ _ _ (λ _. refused-moves end w 7 _ (omega arith))
-    (λ _. either (Moves end w) _ _ _ (λ _. refused-moves end w 8 _ (omega arith))
-    (λ _. past-moves s end w next _ h)))
+  module _ (h : w .at < end) {next : ℕ} (e : next ≡ pieceEnd s (w .at) end) where
+    refuses : {r : Subelements} (n : ℕ) → 0 < n → r ≡ refusedWalk n (w .at) → refusedWalk n (w .at) ≡ step s known end w → r ≡ walk s known from end
+    refuses n p q f = q ∙ last (i .rest) (go-on _ _ _ unrefused h) (omega arith) f (stop-refused n 0 end (λ z. omega arith))
 
-step-moves : (s : List ℕ) (known end : ℕ) (w : Subelements) → Moves end w (step s known end w)
-unfolding step
-step-moves s known end w =
-    either (Moves end w) _ _ _ (λ _. refused-moves end w 7 _ (omega arith))
-    (λ h. whole-moves s known end w _ (piece-ends s (w .at) end (eqb-false _ _ h)))
+    pub refused-edge : {r : Subelements} → next ≡ 0 → r ≡ refusedWalk subelement (w .at) → r ≡ walk s known from end
+    unfolding step if_then_else_
+    refused-edge z q = refuses 7 (omega arith) q (rw (← e, eq-eqb next 0 z))
 
-pub moved : (s : List ℕ) (known : ℕ) {end : ℕ} {w r : Subelements} → r ≡ step s known end w → w .count ≤ w .at → r .refusal .number ≡ 0 → Moved end w r
-moved s known {end} {w} e q z = rw e (step-moves s known end w q (rw e at z))
+    module _ (z : next ≡ 0 → ⊥) where
+      ends : Ends s (w .at) end next
+      ends = rw e (piece-ends s (w .at) end (λ y. z (e ∙ y)))
+
+      pub moves : end - next < end - w .at
+      moves = omega (arith, ends .is)
+
+      pub within : {n : ℕ} → n ≡ getD s (w .at + 1) 0 → w .at + 2 + n ≤ end
+      within m = omega (arith, m, ends .is, ends .within)
+
+      goes : (f : List Condition) → length f ≡ 5 → past w next f ≡ step s known end w
+          → Walking s known from end (record { refusal = w .refusal; at = next; count = w .count + 1; filter = f })
+      goes f l q =
+          rw (i .sound)
+          (record { sound = refl; counted = omega (arith, ends .is, i .counted); five = l; rest = again _ (i .rest) (go-on _ _ _ unrefused h) moves q })
+
+      module _ {id : ℕ} (d : id ≡ getD s (w .at) 0) where
+        pub passed-over : known ≤ id → Walking s known from end (record { refusal = w .refusal; at = next; count = w .count + 1; filter = w .filter })
+        unfolding step wholeStep if_then_else_
+        passed-over k = goes (w .filter) (i .five) (rw (← e, ne-eqb next 0 z, ← d, le-leb known id k))
+
+        module _ (k : id < known) {n : ℕ} (m : n ≡ getD s (w .at + 1) 0) where
+          pub refused-length : {r : Subelements} → (n ≡ lengthOf id → ⊥) → r ≡ refusedWalk subelement (w .at) → r ≡ walk s known from end
+          unfolding step wholeStep if_then_else_
+          refused-length l q = refuses 7 (omega arith) q (rw (← e, ne-eqb next 0 z, ← d, lt-leb known id k, ← m, ne-eqb n (lengthOf id) l))
+
+          module _ (l : n ≡ lengthOf id) where
+            pub refused-repeat : {r : Subelements} → getD (w .filter) id pastFilter .present ≡ true → r ≡ refusedWalk repeatedSubelement (w .at) → r ≡ walk s known from end
+            unfolding step wholeStep if_then_else_
+            refused-repeat b q = refuses 8 (omega arith) q (rw (← e, ne-eqb next 0 z, ← d, lt-leb known id k, ← m, eq-eqb n (lengthOf id) l, b))
+
+            pub held : {o : List ℕ} → getD (w .filter) id pastFilter .present ≡ false → o ≡ bodyAt s (w .at + 2) n
+                → Walking s known from end (record { refusal = w .refusal; at = next; count = w .count + 1; filter = set (w .filter) id (record { present = true; octets = o }) })
+            unfolding step wholeStep if_then_else_
+            held b q =
+                rw q (goes (set (w .filter) id _) (length-set (w .filter) id _ ∙ i .five) (rw (← e, ne-eqb next 0 z, ← d, lt-leb known id k, ← m, eq-eqb n (lengthOf id) l, b)))

@@ -7,8 +7,7 @@ use octets::piece_end;
 use octets::size;
 ghost use mathlib.Core.Path.{_≡_};
 ghost use Prim.Native.Nat.{_+_, _≤_, _<_, _^_};
-ghost use lib.ListN.{getD};
-ghost use Rattle.subelements.specs.Subelements.{lengthOf, bodyOctet, bodyAt, walked, refusedWalk, wholeStep, step as Subelements·step, walk as Subelements·walk};
+ghost use Rattle.subelements.specs.Subelements.{lengthOf, bodyOctet, bodyAt, walked, refusedWalk, walk as Subelements·walk};
 
 // The subelement of one ID of the table: absent (its octets 0), or present with its body (0 past
 // its length). In a request element of event type 0 it is a condition.
@@ -80,67 +79,36 @@ fn refused(number: u8, place: usize) -> Subelements
     walk_of(Refusal::new(number, place), 0)
 }
 
-// Behind the whole subelement at w.at, which ends at next. IDs below known are held against the
-// table.
-fn whole_step(s: &[u8], known: usize, w: Subelements, next: usize) -> Subelements
-    requires { ⌜ (known ≤ 5) × (w .count ≤ w .at) × (w .at + 2 + getD (now s) (w .at + 1) 0 ≡ next) ⌝ }
-    ensures { λ r. ⌜ r ≡ wholeStep (now (s .entry)) known w next ⌝ }
-{
-    let at = w.at;
-    let id = size(s, at);
-    let count = w.count + 1;
-    let mut filter = w.filter;
-    if known <= id {
-        return Subelements {
-            refusal: Refusal::none(),
-            at: next,
-            count,
-            filter,
-        };
-    }
-    let n = size(s, at + 1);
-    if n != length_of(id) {
-        return refused(causes::SUBELEMENT, at);
-    }
-    let old = filter[id];
-    if old.present {
-        return refused(causes::REPEATED_SUBELEMENT, at);
-    }
-    filter[id] = Condition {
-        present: true,
-        octets: body(s, at + 2, n),
-    };
-    Subelements {
-        refusal: Refusal::none(),
-        at: next,
-        count,
-        filter,
-    }
-}
-
-// Behind the subelement at w.at, in an element that ends at end.
-fn step(s: &[u8], known: usize, end: usize, w: Subelements) -> Subelements
-    requires { ⌜ (known ≤ 5) × (w .count ≤ w .at) ⌝ }
-    ensures { λ r. ⌜ r ≡ Subelements·step (now (s .entry)) known end w ⌝ }
-{
-    let at = w.at;
-    let next = piece_end(s, at, end);
-    if next == 0 {
-        return refused(causes::SUBELEMENT, at);
-    }
-    whole_step(s, known, w, next)
-}
-
+// IDs below known are held against the table.
 fn walk(s: &[u8], known: usize, from: usize, end: usize) -> Subelements
     requires { ⌜ known ≤ 5 ⌝ }
     ensures { λ r. ⌜ r ≡ Subelements·walk (now (s .entry)) known from end ⌝ }
 {
     let mut w = walk_of(Refusal::none(), from);
     while w.at < end {
-        w = step(s, known, end, w);
-        if w.refusal.number != 0 {
-            return w;
+        let at = w.at;
+        let next = piece_end(s, at, end);
+        if next == 0 {
+            return refused(causes::SUBELEMENT, at);
         }
+        w.at = next;
+        w.count += 1;
+        let id = size(s, at);
+        if known <= id {
+            continue;
+        }
+        let n = size(s, at + 1);
+        if n != length_of(id) {
+            return refused(causes::SUBELEMENT, at);
+        }
+        let old = w.filter[id];
+        if old.present {
+            return refused(causes::REPEATED_SUBELEMENT, at);
+        }
+        w.filter[id] = Condition {
+            present: true,
+            octets: body(s, at + 2, n),
+        };
     }
     w
 }

@@ -1,18 +1,15 @@
--- `requests::walk_elements` meets its contract. The invariant, `Rest`: what is left of the walk gives what the whole walk gives.
+-- `requests::walk_elements` meets its contract. The invariant, `Walking`: what is left of the walk gives what the whole walk gives.
 -- Assumes nothing.
-use Prim.Native.Nat.{_≤_, _-_}
-use mathlib.Core.Path.{_≡_, refl}
-use native.Mathlib.Omega.{arith}
+use Prim.Native.Nat.{_-_}
 use lib.ListN.{length}
+use native.Mathlib.Omega.{arith}
 use borrow.Author.Needs.{needs}
-use Rattle.laws.proofs.Walk.{Rest, start, last, again, done, go-on, stop-refused, stop-end}
-use Rattle.requests.specs.Elements.{more, elementStep, walkElements}
-use Rattle.requests.proofs.Laws.{moved}
+use Rattle.requests.proofs.Laws.{Walking, walking-start, walking-end, moves, refused-edge, passed-over, refused-ninth, within, refused-length, refused-token, refused-subelements, added}
 use Rattle.requests.proofs.walk_elements.Statement.{statement}
 use Rattle.requests.proofs.walk_elements.Tie as tie
 
 abbrev Inv-loop : tie.InvT-loop
-Inv-loop s kind w₀ w = (w .refusal .number ≡ 0) × (w .count ≤ 8) × Rest (more s) (elementStep s kind) (walkElements s kind) (length s - w .at) w
+Inv-loop s kind w₀ w = Walking s kind w
 
 abbrev μ-loop : tie.MeasureT-loop
 μ-loop s kind w₀ w = length s - w .at
@@ -24,27 +21,129 @@ start-requires : tie.Need-start-requires Inv-loop μ-loop
 start-requires c κs = search needs
 
 loop-holds : tie.Need-loop-holds Inv-loop μ-loop
-unfolding walkElements
-loop-holds c =
-    rw (c .start .ensures, c .before .none .ensures) (refl, omega arith, start _ _ (length (c .before .before .before .args .s .now)) _ _ (omega arith))
+loop-holds c = rw (c .start .ensures, c .before .none .ensures) (walking-start _ _)
 
-element-step-requires : tie.Need-element-step-requires Inv-loop μ-loop
-element-step-requires c κs = omega arith
+piece-end-requires : tie.Need-piece-end-requires Inv-loop μ-loop
+piece-end-requires c κs = search needs
+
+refused-requires : tie.Need-refused-requires Inv-loop μ-loop
+refused-requires c κs = search needs
 
 returns : tie.Need-returns Inv-loop μ-loop
-returns c =
-    last (c .before .before .before .before .before .loop .inv .2) (go-on _ _ _ (c .before .before .before .before .before .loop .inv .0) (c .before .before .before .if1 .taken)) (omega arith) (c .before .before .element-step .ensures) (stop-refused _ (c .before .before .element-step .result .at) (length (c .before .before .before .before .before .before .before .before .before .args .s .now)) (c .if2 .taken))
+returns c = refused-edge (c .before .before .before .before .loop .inv) (c .before .before .before .loop-test .taken) (c .before .before .piece-end .ensures) (c .before .if1 .taken) (c .refused .ensures)
+
+octet-requires : tie.Need-octet-requires Inv-loop μ-loop
+octet-requires c κs = search needs
+
+request-id-requires : tie.Need-request-id-requires Inv-loop μ-loop
+request-id-requires c κs = search needs
 
 loop-less : tie.Need-loop-less Inv-loop μ-loop
-loop-less c = let m = moved _ (c .before .before .element-step .ensures) (c .before .before .before .before .before .loop .inv .1) (c .if2 .left) in omega arith
+loop-less c =
+    let p₁ = c .before .before .before in
+    moves (p₁ .before .before .before .loop .inv) (p₁ .before .before .loop-test .taken) (p₁ .before .piece-end .ensures) (p₁ .if1 .left)
 
 loop-again : tie.Need-loop-again Inv-loop μ-loop
 loop-again c =
-    let m = moved _ (c .before .before .element-step .ensures) (c .before .before .before .before .before .loop .inv .1) (c .if2 .left) in
-    (c .if2 .left, m .few, again _ (c .before .before .before .before .before .loop .inv .2) (go-on _ _ _ (c .before .before .before .before .before .loop .inv .0) (c .before .before .before .if1 .taken)) (omega arith) (c .before .before .element-step .ensures))
+    let p₁ = c .before .before .before in
+    passed-over (p₁ .before .before .before .loop .inv) (p₁ .before .before .loop-test .taken) (p₁ .before .piece-end .ensures) (p₁ .if1 .left) (c .before .before .octet .ensures) (c .before .request-id .ensures) (c .if2 .taken)
+
+refused-requires-2 : tie.Need-refused-requires-2 Inv-loop μ-loop
+refused-requires-2 c κs = search needs
 
 returns-2 : tie.Need-returns-2 Inv-loop μ-loop
-returns-2 c = done (c .before .before .loop .inv .2) (stop-end _ _ _ (c .before .before .loop .inv .0) (c .if1 .left))
+returns-2 c =
+    let p₂ = c .before .before in
+    let p₁ = p₂ .before .before .before in
+    refused-ninth (p₁ .before .before .before .loop .inv) (p₁ .before .before .loop-test .taken) (p₁ .before .piece-end .ensures) (p₁ .if1 .left) (p₂ .before .before .octet .ensures) (p₂ .before .request-id .ensures) (p₂ .if2 .left) (c .before .if3 .taken) (c .refused2 .ensures)
+
+add-size : tie.Need-add-size Inv-loop μ-loop
+add-size c = omega arith
+
+size-requires : tie.Need-size-requires Inv-loop μ-loop
+size-requires c κs = search needs
+
+least-body-requires : tie.Need-least-body-requires Inv-loop μ-loop
+least-body-requires c κs = search needs
+
+refused-requires-3 : tie.Need-refused-requires-3 Inv-loop μ-loop
+refused-requires-3 c κs = search needs
+
+returns-3 : tie.Need-returns-3 Inv-loop μ-loop
+returns-3 c =
+    let p₃ = c .before .before .before .before in
+    let p₂ = p₃ .before in
+    let p₁ = p₂ .before .before .before in
+    refused-length (p₁ .before .before .before .loop .inv) (p₁ .before .before .loop-test .taken) (p₁ .before .piece-end .ensures) (p₁ .if1 .left) (p₂ .before .before .octet .ensures) (p₂ .before .request-id .ensures) (p₂ .if2 .left) (p₃ .if3 .left) (c .before .before .before .size .ensures .0) (c .before .before .least-body .ensures) (c .before .if4 .taken) (c .refused3 .ensures)
+
+add-octet : tie.Need-add-octet Inv-loop μ-loop
+add-octet c = omega arith
+
+octet-requires-2 : tie.Need-octet-requires-2 Inv-loop μ-loop
+octet-requires-2 c κs = search needs
+
+bad-token-requires : tie.Need-bad-token-requires Inv-loop μ-loop
+bad-token-requires c κs = search needs
+
+refused-requires-4 : tie.Need-refused-requires-4 Inv-loop μ-loop
+refused-requires-4 c κs = search needs
+
+returns-4 : tie.Need-returns-4 Inv-loop μ-loop
+returns-4 c =
+    let p₄ = c .before .before .before .before .before in
+    let p₃ = p₄ .before .before .before in
+    let p₂ = p₃ .before in
+    let p₁ = p₂ .before .before .before in
+    refused-token (p₁ .before .before .before .loop .inv) (p₁ .before .before .loop-test .taken) (p₁ .before .piece-end .ensures) (p₁ .if1 .left) (p₂ .before .before .octet .ensures) (p₂ .before .request-id .ensures) (p₂ .if2 .left) (p₃ .if3 .left) (p₄ .before .before .size .ensures .0) (p₄ .before .least-body .ensures) (p₄ .if4 .left) (c .before .before .before .octet2 .ensures) (c .before .before .bad-token .ensures) (c .before .if5 .taken) (c .refused4 .ensures)
+
+subelements-of-requires : tie.Need-subelements-of-requires Inv-loop μ-loop
+subelements-of-requires c κs =
+    let p₁ = c .before .before .before .before .before .before .before .before .before .before .before in
+    let n = c .before .before .before .before .before .before .size .ensures in
+    omega (arith, within (p₁ .before .before .before .loop .inv) (p₁ .before .before .loop-test .taken) (p₁ .before .piece-end .ensures) (p₁ .if1 .left) (n .0) (n .1))
+
+refused-requires-5 : tie.Need-refused-requires-5 Inv-loop μ-loop
+refused-requires-5 c κs = search needs
+
+returns-5 : tie.Need-returns-5 Inv-loop μ-loop
+returns-5 c =
+    let p₅ = c .before .before .before .before in
+    let p₄ = p₅ .before .before .before .before in
+    let p₃ = p₄ .before .before .before in
+    let p₂ = p₃ .before in
+    let p₁ = p₂ .before .before .before in
+    refused-subelements (p₁ .before .before .before .loop .inv) (p₁ .before .before .loop-test .taken) (p₁ .before .piece-end .ensures) (p₁ .if1 .left) (p₂ .before .before .octet .ensures) (p₂ .before .request-id .ensures) (p₂ .if2 .left) (p₃ .if3 .left) (p₄ .before .before .size .ensures .0) (p₄ .before .least-body .ensures) (p₄ .if4 .left) (p₅ .before .before .octet2 .ensures) (p₅ .before .bad-token .ensures) (p₅ .if5 .left) (c .before .before .before .subelements-of .ensures .0) (c .before .if6 .taken) (c .refused5 .ensures)
+
+element-of-requires : tie.Need-element-of-requires Inv-loop μ-loop
+element-of-requires c κs =
+    let t = c .before .before .before .before .before .before .before .before .before .before .before .before .before .before .before .before in
+    omega (arith, t .loop-test .taken, t .before .before .before .before .before .pre)
+
+mul-t11 : tie.Need-mul-t11 Inv-loop μ-loop
+mul-t11 c = omega arith
+
+element-set-from-w : tie.Need-element-set-from-w Inv-loop μ-loop
+element-set-from-w c = omega (arith, c .before .before .before .before .before .before .before .before .before .before .before .before .before .before .before .before .before .before .loop .inv .eight)
+
+add-w : tie.Need-add-w Inv-loop μ-loop
+add-w c = omega arith
+
+loop-less-2 : tie.Need-loop-less-2 Inv-loop μ-loop
+loop-less-2 c =
+    let p₁ = c .before .before .before .before .before .before .before .before .before .before .before .before .before .before .before in
+    moves (p₁ .before .before .before .loop .inv) (p₁ .before .before .loop-test .taken) (p₁ .before .piece-end .ensures) (p₁ .if1 .left)
+
+loop-again-2 : tie.Need-loop-again-2 Inv-loop μ-loop
+loop-again-2 c =
+    let p₅ = c .before .before .before .before in
+    let p₄ = p₅ .before .before .before .before in
+    let p₃ = p₄ .before .before .before in
+    let p₂ = p₃ .before in
+    let p₁ = p₂ .before .before .before in
+    added (p₁ .before .before .before .loop .inv) (p₁ .before .before .loop-test .taken) (p₁ .before .piece-end .ensures) (p₁ .if1 .left) (p₂ .before .before .octet .ensures) (p₂ .before .request-id .ensures) (p₂ .if2 .left) (p₃ .if3 .left) (p₄ .before .before .size .ensures .0) (p₄ .before .least-body .ensures) (p₄ .if4 .left) (p₅ .before .before .octet2 .ensures) (p₅ .before .bad-token .ensures) (p₅ .if5 .left) (c .before .before .before .subelements-of .ensures .0) (c .before .if6 .left) (c .element-of .ensures)
+
+returns-6 : tie.Need-returns-6 Inv-loop μ-loop
+returns-6 c = walking-end (c .before .loop .inv) (c .loop-test .left)
 
 pub walk-elements-spec : {M : Type 1} → statement M
 walk-elements-spec =
@@ -55,8 +154,32 @@ walk-elements-spec =
     none-requires
     start-requires
     loop-holds
-    element-step-requires
+    piece-end-requires
+    refused-requires
     returns
+    octet-requires
+    request-id-requires
     loop-less
     loop-again
-    returns-2)
+    refused-requires-2
+    returns-2
+    add-size
+    size-requires
+    least-body-requires
+    refused-requires-3
+    returns-3
+    add-octet
+    octet-requires-2
+    bad-token-requires
+    refused-requires-4
+    returns-4
+    subelements-of-requires
+    refused-requires-5
+    returns-5
+    element-of-requires
+    mul-t11
+    element-set-from-w
+    add-w
+    loop-less-2
+    loop-again-2
+    returns-6)

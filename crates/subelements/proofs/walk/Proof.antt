@@ -1,17 +1,15 @@
--- `subelements::walk` meets its contract. The invariant, `Rest`: what is left of the walk gives what the whole walk gives.
+-- `subelements::walk` meets its contract. The invariant, `Walking`: what is left of the walk gives what the whole walk gives.
 -- Assumes nothing.
-use Prim.Native.Nat.{_≤_, _-_}
-use mathlib.Core.Path.{_≡_, refl}
+use Prim.Native.Nat.{_-_}
+use mathlib.Core.Path.{sym, _∙_}
 use native.Mathlib.Omega.{arith}
 use borrow.Author.Needs.{needs}
-use Rattle.laws.proofs.Walk.{Rest, start, last, again, done, go-on, stop-refused, stop-end}
-use Rattle.subelements.specs.Subelements.{more, step, walk}
-use Rattle.subelements.proofs.Laws.{moved}
+use Rattle.subelements.proofs.Laws.{Walking, walking-start, walking-end, moves, refused-edge, passed-over, within, refused-length, refused-repeat, held}
 use Rattle.subelements.proofs.walk.Statement.{statement}
 use Rattle.subelements.proofs.walk.Tie as tie
 
 abbrev Inv-loop : tie.InvT-loop
-Inv-loop s known from end w₀ w = (w .refusal .number ≡ 0) × (w .count ≤ w .at) × Rest (more end) (step s known end) (walk s known from end) (end - w .at) w
+Inv-loop s known from end w₀ w = Walking s known from end w
 
 abbrev μ-loop : tie.MeasureT-loop
 μ-loop s known from end w₀ w = end - w .at
@@ -23,27 +21,97 @@ walk-of-requires : tie.Need-walk-of-requires Inv-loop μ-loop
 walk-of-requires c κs = search needs
 
 loop-holds : tie.Need-loop-holds Inv-loop μ-loop
-unfolding walk
-loop-holds c =
-    rw (c .walk-of .ensures, c .before .none .ensures) (refl, omega arith, start _ _ (c .before .before .before .args .end) _ _ (omega arith))
+loop-holds c = rw (c .walk-of .ensures, c .before .none .ensures) (walking-start _ _ _ _)
 
-step-requires : tie.Need-step-requires Inv-loop μ-loop
-step-requires c κs = (c .before .before .before .before .before .before .pre, c .before .before .loop .inv .1)
+piece-end-requires : tie.Need-piece-end-requires Inv-loop μ-loop
+piece-end-requires c κs = search needs
+
+refused-requires : tie.Need-refused-requires Inv-loop μ-loop
+refused-requires c κs = search needs
 
 returns : tie.Need-returns Inv-loop μ-loop
-returns c =
-    last (c .before .before .before .before .before .loop .inv .2) (go-on _ _ _ (c .before .before .before .before .before .loop .inv .0) (c .before .before .before .if1 .taken)) (omega arith) (c .before .before .step .ensures) (stop-refused _ (c .before .before .step .result .at) (c .before .before .before .before .before .before .before .before .before .args .end) (c .if2 .taken))
+returns c = refused-edge (c .before .before .before .before .loop .inv) (c .before .before .before .loop-test .taken) (c .before .before .piece-end .ensures) (c .before .if1 .taken) (c .refused .ensures)
+
+add-w : tie.Need-add-w Inv-loop μ-loop
+add-w c = omega (arith, c .before .before .before .loop .inv .counted)
+
+size-requires : tie.Need-size-requires Inv-loop μ-loop
+size-requires c κs = search needs
 
 loop-less : tie.Need-loop-less Inv-loop μ-loop
-loop-less c = let m = moved _ _ (c .before .before .step .ensures) (c .before .before .before .before .before .loop .inv .1) (c .if2 .left) in omega arith
+loop-less c =
+    let p₁ = c .before .before in
+    moves (p₁ .before .before .before .loop .inv) (p₁ .before .before .loop-test .taken) (p₁ .before .piece-end .ensures) (p₁ .if1 .left)
 
 loop-again : tie.Need-loop-again Inv-loop μ-loop
 loop-again c =
-    let m = moved _ _ (c .before .before .step .ensures) (c .before .before .before .before .before .loop .inv .1) (c .if2 .left) in
-    (c .if2 .left, m .counted, again _ (c .before .before .before .before .before .loop .inv .2) (go-on _ _ _ (c .before .before .before .before .before .loop .inv .0) (c .before .before .before .if1 .taken)) (omega arith) (c .before .before .step .ensures))
+    let p₁ = c .before .before in
+    passed-over (p₁ .before .before .before .loop .inv) (p₁ .before .before .loop-test .taken) (p₁ .before .piece-end .ensures) (p₁ .if1 .left) (c .before .size .ensures .0) (c .if2 .taken)
+
+add-size : tie.Need-add-size Inv-loop μ-loop
+add-size c = omega arith
+
+size-requires-2 : tie.Need-size-requires-2 Inv-loop μ-loop
+size-requires-2 c κs = search needs
+
+length-of-requires : tie.Need-length-of-requires Inv-loop μ-loop
+length-of-requires c κs = search needs
+
+refused-requires-2 : tie.Need-refused-requires-2 Inv-loop μ-loop
+refused-requires-2 c κs = search needs
 
 returns-2 : tie.Need-returns-2 Inv-loop μ-loop
-returns-2 c = done (c .before .before .loop .inv .2) (stop-end _ _ _ (c .before .before .loop .inv .0) (c .if1 .left))
+returns-2 c =
+    let p₂ = c .before .before .before .before in
+    let p₁ = p₂ .before .before in
+    refused-length (p₁ .before .before .before .loop .inv) (p₁ .before .before .loop-test .taken) (p₁ .before .piece-end .ensures) (p₁ .if1 .left) (p₂ .before .size .ensures .0) (p₂ .if2 .left) (c .before .before .before .size2 .ensures .0) (λ y. c .before .if3 .taken (y ∙ sym (c .before .before .length-of .ensures))) (c .refused2 .ensures)
+
+mul-old : tie.Need-mul-old Inv-loop μ-loop
+mul-old c = omega arith
+
+element-copy-out-old : tie.Need-element-copy-out-old Inv-loop μ-loop
+element-copy-out-old c = omega (arith, c .before .before .before .before .before .before .before .before .loop .inv .five)
+
+refused-requires-3 : tie.Need-refused-requires-3 Inv-loop μ-loop
+refused-requires-3 c κs = search needs
+
+returns-3 : tie.Need-returns-3 Inv-loop μ-loop
+returns-3 c =
+    let p₃ = c .before .before .before in
+    let p₂ = p₃ .before .before .before in
+    let p₁ = p₂ .before .before in
+    refused-repeat (p₁ .before .before .before .loop .inv) (p₁ .before .before .loop-test .taken) (p₁ .before .piece-end .ensures) (p₁ .if1 .left) (p₂ .before .size .ensures .0) (p₂ .if2 .left) (p₃ .before .before .size2 .ensures .0) (p₃ .if3 .left ∙ p₃ .before .length-of .ensures) (c .before .if4 .taken) (c .refused3 .ensures)
+
+add-body : tie.Need-add-body Inv-loop μ-loop
+add-body c =
+    let p₁ = c .before .before .before .before .before .before .before in
+    omega (arith, within (p₁ .before .before .before .loop .inv) (p₁ .before .before .loop-test .taken) (p₁ .before .piece-end .ensures) (p₁ .if1 .left) (c .before .before .before .before .size2 .ensures .0))
+
+body-requires : tie.Need-body-requires Inv-loop μ-loop
+body-requires c κs =
+    let p₁ = c .before .before .before .before .before .before .before in
+    omega (arith, within (p₁ .before .before .before .loop .inv) (p₁ .before .before .loop-test .taken) (p₁ .before .piece-end .ensures) (p₁ .if1 .left) (c .before .before .before .before .size2 .ensures .0))
+
+mul-t15 : tie.Need-mul-t15 Inv-loop μ-loop
+mul-t15 c = omega arith
+
+element-set-from-w : tie.Need-element-set-from-w Inv-loop μ-loop
+element-set-from-w c = omega (arith, c .before .before .before .before .before .before .before .before .before .before .before .loop .inv .five)
+
+loop-less-2 : tie.Need-loop-less-2 Inv-loop μ-loop
+loop-less-2 c =
+    let p₁ = c .before .before .before .before .before .before .before .before in
+    moves (p₁ .before .before .before .loop .inv) (p₁ .before .before .loop-test .taken) (p₁ .before .piece-end .ensures) (p₁ .if1 .left)
+
+loop-again-2 : tie.Need-loop-again-2 Inv-loop μ-loop
+loop-again-2 c =
+    let p₃ = c .before .before .before in
+    let p₂ = p₃ .before .before .before in
+    let p₁ = p₂ .before .before in
+    held (p₁ .before .before .before .loop .inv) (p₁ .before .before .loop-test .taken) (p₁ .before .piece-end .ensures) (p₁ .if1 .left) (p₂ .before .size .ensures .0) (p₂ .if2 .left) (p₃ .before .before .size2 .ensures .0) (p₃ .if3 .left ∙ p₃ .before .length-of .ensures) (c .before .if4 .left) (c .body .ensures)
+
+returns-4 : tie.Need-returns-4 Inv-loop μ-loop
+returns-4 c = walking-end (c .before .loop .inv) (c .loop-test .left)
 
 pub walk-spec : {M : Type 1} → statement M
 walk-spec =
@@ -54,8 +122,26 @@ walk-spec =
     none-requires
     walk-of-requires
     loop-holds
-    step-requires
+    piece-end-requires
+    refused-requires
     returns
+    add-w
+    size-requires
     loop-less
     loop-again
-    returns-2)
+    add-size
+    size-requires-2
+    length-of-requires
+    refused-requires-2
+    returns-2
+    mul-old
+    element-copy-out-old
+    refused-requires-3
+    returns-3
+    add-body
+    body-requires
+    mul-t15
+    element-set-from-w
+    loop-less-2
+    loop-again-2
+    returns-4)
