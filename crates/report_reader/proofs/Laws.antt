@@ -1,4 +1,4 @@
--- Laws of the reader: a step that is not refused moves on, and not past the end; the judgement agrees with the cursor's walk.
+-- Laws of the reader: a step that is not refused moves on, and not past the end; its verdict says the rest of it; the judgement agrees with the cursor's walk.
 -- Assumes nothing.
 use Prim.Native.Nat.{ℕ, _+_, _-_, _≤_, _<_}
 use mathlib.Core.Path.{_≡_, refl}
@@ -7,84 +7,122 @@ use mathlib.Core.List.{List, [], _∷_, _++_}
 use native.Mathlib.Omega.{arith}
 use lib.ListN.{length, getD, length-append}
 use lib.Dec.{eqb}
-use borrow.Author.Tests.{eqb-true, eqb-false, not-true, not-false}
+use borrow.Author.Tests.{eqb-true, eqb-false, ltb-false, not-true, not-false}
 use Rattle.laws.specs.Choice.{if_then_else_}
 use Rattle.laws.proofs.Walk.{view-walk}
 use Rattle.laws.proofs.Choice.{either}
 use Rattle.octets.specs.declared.numbers.Kind.{Kind}
 use Rattle.octets.specs.declared.numbers.Kind.the-variants.{Event, Diagnostic}
 use Rattle.octets.specs.Refusals.{noRefusal}
+use Rattle.octets.specs.Elements.{pieceEnd}
 use Rattle.octets.proofs.ElementLaws.{piece-ends}
 use Rattle.subelements.specs.declared.Subelements.{Subelements}
 use Rattle.subelements.specs.Subelements.{walk}
 use Rattle.report_reader.specs.declared.Step.{Step}
+use Rattle.report_reader.specs.declared.Verdict.{Verdict}
 use Rattle.report_reader.specs.declared.Walk.{Walk}
-use Rattle.report_reader.specs.Reader.{refusedStep, plainStep, loggedStep, bareStep, transitionStep, eventStep, walkedStep, diagnosticStep, kindStep, ownStep, stepAt, atWalk, advanced, more, judgeStep, judge, Reading, reading, gathered, unread, readStep, readElements, viewed}
+use Rattle.report_reader.specs.Reader.{refusedStep, skippedStep, plainStep, loggedStep, bareStep, transitionStep, eventStep, walkedStep, diagnosticStep, kindStep, ownStep, stepAt, atWalk, advanced, more, judgeStep, judge, Reading, reading, gathered, unread, readStep, readElements, viewed}
+use Rattle.report_reader.specs.Verdicts.{verdictOf, transitionAt, elementAt, Fits, stepOf}
 
--- ---- a step moves on
+-- ---- a step is one of four: refused, passed over, with no transition, or with one
+
+data Stands (s : List ℕ) (at : ℕ) : Step → Type 0 where
+  is-refused : (n p : ℕ) → 0 < n → Stands s at (refusedStep n p)
+  is-skipped : (e : ℕ) → at < e → e ≤ length s → Stands s at (skippedStep e)
+  is-plain : (n subs : ℕ) → 3 ≤ n → at + 2 + n ≤ length s → Stands s at (plainStep s at n subs)
+  is-logged : at + 35 ≤ length s → Stands s at (loggedStep s at)
+
+module _ (s : List ℕ) (at n : ℕ) (few : 3 ≤ n) (h : at + 2 + n ≤ length s) where
+  bare-stands : Stands s at (bareStep s at n)
+  unfolding bareStep
+  bare-stands = either (Stands s at) _ _ _ (λ _. is-plain n 0 few h) (λ _. is-refused 17 at (omega arith))
+
+  transition-stands : Stands s at (transitionStep s at n)
+  unfolding transitionStep
+  transition-stands =
+      either (Stands s at) _ _ _ (λ _. is-plain n 0 few h)
+      (λ _. either (Stands s at) _ _ _ (λ _. is-refused 17 at (omega arith))
+      (λ p. either (Stands s at) _ _ _ (λ _. is-refused 14 at (omega arith)) (λ _. is-logged (omega (arith, eqb-true n 33 (not-false _ p))))))
+
+  event-stands : Stands s at (eventStep s at n)
+  unfolding eventStep
+  event-stands = either (Stands s at) _ _ _ (λ _. bare-stands) (λ _. either (Stands s at) _ _ _ (λ _. transition-stands) (λ _. is-plain n 0 few h))
+
+  walked-stands : (w : Subelements) → Stands s at (walkedStep s at n w)
+  unfolding walkedStep
+  walked-stands w =
+      either (Stands s at) _ _ _ (λ p. is-refused (w .refusal .number) (w .refusal .place) (positive (eqb-false (w .refusal .number) 0 (not-true _ p))))
+      (λ _. is-plain n (w .count) few h)
+    where
+      positive : {k : ℕ} → (k ≡ 0 → ⊥) → 0 < k
+      positive f = omega (arith, f)
+
+  kind-stands : (kind : Kind) → Stands s at (kindStep kind s at n)
+  unfolding diagnosticStep
+  kind-stands Event = event-stands
+  kind-stands Diagnostic = walked-stands (walk s 0 (at + 5) (at + 2 + n))
+
+own-stands : (s : List ℕ) (kind : Kind) (at n : ℕ) → at + 2 + n ≤ length s → Stands s at (ownStep s kind at n)
+unfolding ownStep
+own-stands s kind at n h =
+    either (Stands s at) _ _ _ (λ _. is-refused 5 at (omega arith))
+    (λ p. either (Stands s at) _ _ _ (λ _. is-refused 17 at (omega arith)) (λ _. kind-stands s at n (ltb-false n 3 p) h kind))
+
+stands : (s : List ℕ) (kind : Kind) (at : ℕ) → Stands s at (stepAt s kind at)
+unfolding stepAt
+stands s kind at =
+    either (Stands s at) _ _ _ (λ _. is-refused 4 at (omega arith))
+    (λ p. let e = piece-ends s at (length s) (eqb-false _ _ p) in
+    either (Stands s at) _ _ _ (λ _. is-skipped (pieceEnd s at (length s)) (omega (arith, e .is)) (e .within))
+    (λ _. own-stands s kind at (getD s (at + 1) 0) (omega (arith, e .is, e .within))))
+
+-- ---- so it moves on
 
 pub record Forward (s : List ℕ) (at : ℕ) (t : Step) : Type 0 where
   pub on : at < t .next .at
   pub within : t .next .at ≤ length s
 
-abbrev Goes : List ℕ → ℕ → Step → Type 0
-Goes s at t = t .refusal .number ≡ 0 → Forward s at t
-
-refused-goes : (s : List ℕ) (at n p : ℕ) → 0 < n → Goes s at (refusedStep n p)
-refused-goes s at n p h e = absurd (omega arith)
-
-module _ (s : List ℕ) (at n : ℕ) (h : at + 2 + n ≤ length s) where
-  plain-goes : (subs : ℕ) → Goes s at (plainStep s at n subs)
-  unfolding plainStep
-  plain-goes subs e = record { on = omega arith; within = h }
-
-  bare-goes : Goes s at (bareStep s at n)
-  unfolding bareStep
-  bare-goes = either (Goes s at) _ _ _ (λ _. plain-goes 0) (λ _. refused-goes s at 17 at (omega arith))
-
-  logged-goes : n ≡ 33 → Goes s at (loggedStep s at)
-  unfolding loggedStep
-  logged-goes e _ = record { on = omega arith; within = omega arith }
-
-  transition-goes : Goes s at (transitionStep s at n)
-  unfolding transitionStep
-  transition-goes =
-      either (Goes s at) _ _ _ (λ _. plain-goes 0)
-      (λ _. either (Goes s at) _ _ _ (λ _. refused-goes s at 17 at (omega arith))
-      (λ p. either (Goes s at) _ _ _ (λ _. refused-goes s at 14 at (omega arith)) (λ _. logged-goes (eqb-true n 33 (not-false _ p)))))
-
-  event-goes : Goes s at (eventStep s at n)
-  unfolding eventStep
-  event-goes = either (Goes s at) _ _ _ (λ _. bare-goes) (λ _. either (Goes s at) _ _ _ (λ _. transition-goes) (λ _. plain-goes 0))
-
-  walked-goes : (w : Subelements) → Goes s at (walkedStep s at n w)
-  unfolding walkedStep
-  walked-goes w = either (Goes s at) _ _ _ (λ p z. absurd (eqb-false (w .refusal .number) 0 (not-true _ p) z)) (λ _. plain-goes (w .count))
-
-  kind-goes : (kind : Kind) → Goes s at (kindStep kind s at n)
-  unfolding diagnosticStep
-  kind-goes Event = event-goes
-  kind-goes Diagnostic = walked-goes (walk s 0 (at + 5) (at + 2 + n))
-
-  own-goes : (kind : Kind) → Goes s at (ownStep s kind at n)
-  unfolding ownStep
-  own-goes kind =
-      either (Goes s at) _ _ _ (λ _. refused-goes s at 5 at (omega arith))
-      (λ _. either (Goes s at) _ _ _ (λ _. refused-goes s at 17 at (omega arith)) (λ _. kind-goes kind))
+goes : (s : List ℕ) (at : ℕ) {t : Step} → Stands s at t → t .refusal .number ≡ 0 → Forward s at t
+unfolding plainStep loggedStep
+goes s at (is-refused n p h) z = absurd (omega arith)
+goes s at (is-skipped e on within) z = record { on = on; within = within }
+goes s at (is-plain n subs few h) z = record { on = omega arith; within = h }
+goes s at (is-logged h) z = record { on = omega arith; within = h }
 
 pub step-goes : (s : List ℕ) (kind : Kind) (at : ℕ) → stepAt s kind at .refusal .number ≡ 0 → Forward s at (stepAt s kind at)
-unfolding stepAt
-step-goes s kind at =
-    either (Goes s at) _ _ _ (λ _. refused-goes s at 4 at (omega arith))
-    (λ p. let e = piece-ends s at (length s) (eqb-false _ _ p) in
-    either (Goes s at) _ _ _ (λ _ _. record { on = omega (arith, e .is); within = e .within })
-    (λ _. own-goes s at (getD s (at + 1) 0) (omega (arith, e .is, e .within)) kind))
+step-goes s kind at = goes s at (stands s kind at)
 
 -- the same of a step that was taken, for loops over a cursor
 pub goes-on : (s : List ℕ) (kind : Kind) (at : ℕ) (t : Step) → t ≡ stepAt s kind at → t .refusal .number ≡ 0 → Forward s at t
 goes-on s kind at t e z = rw e (step-goes s kind at (rw e at z))
 
--- ---- so does the judgement's step, and its position bounds its count
+-- ---- and its verdict says the rest of it
+
+stands-told : (s : List ℕ) (at : ℕ) {t : Step} → Stands s at t → stepOf s at (verdictOf t) ≡ t
+unfolding stepOf elementAt transitionAt verdictOf plainStep loggedStep if_then_else_
+stands-told s at (is-refused n p h) = refl
+stands-told s at (is-skipped e on within) = refl
+stands-told s at (is-plain n subs few h) = let e : at + 2 + n - (at + 5) ≡ n - 3 = omega arith in rw e
+stands-told s at (is-logged h) = let e : at + 35 - (at + 5) ≡ 30 = omega arith in rw e
+
+never : {P : Type 0} → false ≡ true → P
+never e = let z : _≡_ {A = ℕ} 0 1 = cc in absurd (omega arith)
+
+stands-fits : (s : List ℕ) (at : ℕ) {t : Step} → Stands s at t → verdictOf t .found ≡ true → Fits s at (verdictOf t)
+unfolding verdictOf plainStep loggedStep
+stands-fits s at (is-refused n p h) e = never e
+stands-fits s at (is-skipped n on within) e = never e
+stands-fits s at (is-plain n subs few h) e = record { head = omega arith; within = h; event = never }
+stands-fits s at (is-logged h) e = record { head = omega arith; within = h; event = λ _. h }
+
+module _ (s : List ℕ) (kind : Kind) (at : ℕ) where
+  pub step-told : stepOf s at (verdictOf (stepAt s kind at)) ≡ stepAt s kind at
+  step-told = stands-told s at (stands s kind at)
+
+  pub step-fits : {v : Verdict} → v ≡ verdictOf (stepAt s kind at) → v .found ≡ true → Fits s at v
+  step-fits e f = rw e (stands-fits s at (stands s kind at) (rw e at f))
+
+-- ---- the judgement's step moves on too, and its position bounds its count
 
 pub record Moved (end : ℕ) (w r : Walk) : Type 0 where
   pub on : w .at < r .at

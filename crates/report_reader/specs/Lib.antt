@@ -1,2 +1,3 @@
 pub mod Reader
+pub mod Verdicts
 pub mod Sent

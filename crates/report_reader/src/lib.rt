@@ -2,23 +2,26 @@
 // whole, and a cursor hands out its elements.
 use octets::Kind;
 use octets::Refusal;
-use octets::address_at;
 use octets::causes;
 use octets::good_time;
 use octets::is_group;
 use octets::numbers;
 use octets::octet;
-use octets::pair_at;
+use octets::pair;
 use octets::piece_end;
 use octets::size;
 use subelements::Subelements;
 use subelements::walk_edges;
 use units::TimeUnits;
 ghost use mathlib.Core.Path.{_≡_};
-ghost use Prim.Native.Nat.{_+_, _^_, _≤_, _<_};
+ghost use mathlib.Core.Bool.{true};
+ghost use mathlib.Core.List.{List};
+ghost use Prim.Native.Nat.{ℕ, _+_, _^_, _≤_, _<_};
 ghost use lib.ListN.{length};
+ghost use Rattle.report_reader.specs.declared.Step.{Step};
 ghost use Rattle.report_reader.specs.Reader.{part, noEvent, eventAt, refusedStep, skippedStep, plainStep, loggedStep, bareStep, transitionStep, eventStep, walkedStep, diagnosticStep, ownStep, stepAt, atWalk, advanced, refusedReport, reportOf, judgedReport, readReport};
 ghost use Rattle.report_reader.specs.Reader.{judge as Reader·judge};
+ghost use Rattle.report_reader.specs.Verdicts.{verdictOf, transitionAt, elementAt, Fits, stepOf};
 
 // A reported transition; the signals are source RCPI, source RSNI, target RCPI and target RSNI.
 #[repr(C)]
@@ -58,6 +61,16 @@ pub struct Step {
     pub element: Element,
     pub rest: usize,
     pub next: Cursor,
+}
+
+// What the judgement of a frame sees of a step: of the element's fields only whether it holds a
+// transition and how many subelements. Next is the position behind it.
+pub struct Verdict {
+    pub refusal: Refusal,
+    pub found: bool,
+    pub logged: bool,
+    pub subs: usize,
+    pub next: usize,
 }
 
 // How far a frame is judged: refused, or the next position and the number of elements.
@@ -108,6 +121,13 @@ fn time_at(s: &[u8], at: usize) -> [u8; 9]
     ]
 }
 
+fn bssid_at(s: &[u8], at: usize) -> [u8; 6]
+    requires { ⌜ at + 6 ≤ length (now s) ⌝ }
+    ensures { λ r. ⌜ r ≡ part (now (s .entry)) at 6 ⌝ }
+{
+    [s[at], s[at + 1], s[at + 2], s[at + 3], s[at + 4], s[at + 5]]
+}
+
 fn signals_at(s: &[u8], at: usize) -> [u8; 4]
     requires { ⌜ at + 4 ≤ length (now s) ⌝ }
     ensures { λ r. ⌜ r ≡ part (now (s .entry)) at 4 ⌝ }
@@ -122,20 +142,205 @@ fn event_at(s: &[u8], at: usize) -> Event
 {
     Event {
         time: time_at(s, at),
-        source: address_at(s, at + 9),
-        target: address_at(s, at + 15),
-        took: TimeUnits(pair_at(s, at + 21)),
-        reason: octet(s, at + 23),
-        result: pair_at(s, at + 24),
+        source: bssid_at(s, at + 9),
+        target: bssid_at(s, at + 15),
+        took: TimeUnits(pair(s[at + 21], s[at + 22])),
+        reason: s[at + 23],
+        result: pair(s[at + 24], s[at + 25]),
         signals: signals_at(s, at + 26),
     }
 }
 
-fn refused(number: u8, place: usize) -> Step
-    ensures { λ r. ⌜ r ≡ refusedStep number place ⌝ }
+// ---- its verdict
+
+fn refused(number: u8, place: usize) -> Verdict
+    ensures { λ r. ⌜ r ≡ verdictOf (refusedStep number place) ⌝ }
 {
-    Step {
+    Verdict {
         refusal: Refusal::new(number, place),
+        found: false,
+        logged: false,
+        subs: 0,
+        next: 0,
+    }
+}
+
+// Another ID: passed over.
+fn skipped(next: usize) -> Verdict
+    ensures { λ r. ⌜ r ≡ verdictOf (skippedStep next) ⌝ }
+{
+    Verdict {
+        refusal: Refusal::none(),
+        found: false,
+        logged: false,
+        subs: 0,
+        next,
+    }
+}
+
+// An element with n octets of body; the verdict is the same whatever they are.
+fn plain(at: usize, n: usize, subs: usize) -> Verdict
+    requires { ⌜ at + 2 + n < 2 ^ 64 ⌝ }
+    ensures { λ r. ⌜ ((s : List ℕ) → r ≡ verdictOf (plainStep s at n subs)) ⌝ }
+{
+    Verdict {
+        refusal: Refusal::none(),
+        found: true,
+        logged: false,
+        subs,
+        next: at + 2 + n,
+    }
+}
+
+// An element with a transition.
+fn logged(at: usize) -> Verdict
+    requires { ⌜ at + 35 < 2 ^ 64 ⌝ }
+    ensures { λ r. ⌜ ((s : List ℕ) → r ≡ verdictOf (loggedStep s at)) ⌝ }
+{
+    Verdict {
+        refusal: Refusal::none(),
+        found: true,
+        logged: true,
+        subs: 0,
+        next: at + 35,
+    }
+}
+
+// An event report that is not Successful has nothing more.
+fn judge_bare(at: usize, n: usize) -> Verdict
+    requires { ⌜ at + 2 + n < 2 ^ 64 ⌝ }
+    ensures { λ r. ⌜ ((s : List ℕ) → r ≡ verdictOf (bareStep s at n)) ⌝ }
+{
+    if n == 3 {
+        return plain(at, n, 0);
+    }
+    refused(causes::REPORT_BODY, at)
+}
+
+// A Successful report of event type 0.
+fn judge_transition(s: &[u8], at: usize, n: usize) -> Verdict
+    requires { ⌜ at + 2 + n ≤ length (now s) ⌝ }
+    ensures { λ r. ⌜ r ≡ verdictOf (transitionStep (now (s .entry)) at n) ⌝ }
+{
+    if n == 3 {
+        return plain(at, n, 0);
+    }
+    if n != 33 {
+        return refused(causes::REPORT_BODY, at);
+    }
+    if !good_time(time_at(s, at + 5)) {
+        return refused(causes::TIME_FIELD, at);
+    }
+    logged(at)
+}
+
+fn judge_event(s: &[u8], at: usize, n: usize) -> Verdict
+    requires { ⌜ (3 ≤ n) × (at + 2 + n ≤ length (now s)) ⌝ }
+    ensures { λ r. ⌜ r ≡ verdictOf (eventStep (now (s .entry)) at n) ⌝ }
+{
+    if s[at + 4] != numbers::SUCCESSFUL {
+        return judge_bare(at, n);
+    }
+    let ty = s[at + 3];
+    match ty {
+        0 => judge_transition(s, at, n),
+        1..=255 => plain(at, n, 0),
+    }
+}
+
+fn judge_walked(at: usize, n: usize, w: Subelements) -> Verdict
+    requires { ⌜ at + 2 + n < 2 ^ 64 ⌝ }
+    ensures { λ r. ⌜ ((s : List ℕ) → r ≡ verdictOf (walkedStep s at n w)) ⌝ }
+{
+    if w.refusal.number != 0 {
+        return refused(w.refusal.number, w.refusal.place);
+    }
+    plain(at, n, w.count)
+}
+
+fn judge_diagnostic(s: &[u8], at: usize, n: usize) -> Verdict
+    requires { ⌜ (3 ≤ n) × (at + 2 + n ≤ length (now s)) ⌝ }
+    ensures { λ r. ⌜ r ≡ verdictOf (diagnosticStep (now (s .entry)) at n) ⌝ }
+{
+    judge_walked(at, n, walk_edges(s, at + 5, at + 2 + n))
+}
+
+// An element of the frame's own ID, with n octets of body.
+fn judge_own(s: &[u8], kind: Kind, at: usize, n: usize) -> Verdict
+    requires { ⌜ at + 2 + n ≤ length (now s) ⌝ }
+    ensures { λ r. ⌜ r ≡ verdictOf (ownStep (now (s .entry)) kind at n) ⌝ }
+{
+    if n < 3 {
+        return refused(causes::ELEMENT_LENGTH, at);
+    }
+    if numbers::CANCELLED < s[at + 4] {
+        return refused(causes::REPORT_BODY, at);
+    }
+    match kind {
+        Kind::Event => judge_event(s, at, n),
+        Kind::Diagnostic => judge_diagnostic(s, at, n),
+    }
+}
+
+// What stands at a position, judged.
+fn judge_at(s: &[u8], kind: Kind, at: usize) -> Verdict
+    ensures { λ r. ⌜ r ≡ verdictOf (stepAt (now (s .entry)) kind at) ⌝ }
+{
+    let end = piece_end(s, at, s.len());
+    if end == 0 {
+        return refused(causes::ELEMENT_EDGE, at);
+    }
+    if octet(s, at) != kind.report_id() {
+        return skipped(end);
+    }
+    judge_own(s, kind, at, size(s, at + 1))
+}
+
+// ---- its step, by the verdict
+
+// The transition at a position, where one is.
+fn transition_at(s: &[u8], at: usize, logged: bool) -> Event
+    requires { ⌜ (logged ≡ true → at + 30 ≤ length (now s)) ⌝ }
+    ensures { λ r. ⌜ r ≡ transitionAt (now (s .entry)) at logged ⌝ }
+{
+    if logged {
+        return event_at(s, at);
+    }
+    no_event()
+}
+
+// The fields of an element that was found.
+fn element_at(s: &[u8], at: usize, v: Verdict) -> Element
+    requires { ⌜ Fits (now s) at v ⌝ }
+    ensures { λ r. ⌜ r ≡ elementAt (now (s .entry)) at v ⌝ }
+{
+    Element {
+        token: s[at + 2],
+        ty: s[at + 3],
+        status: s[at + 4],
+        length: v.next - (at + 5),
+        subs: v.subs,
+        logged: v.logged,
+        event: transition_at(s, at + 5, v.logged),
+    }
+}
+
+fn step_of(s: &[u8], at: usize, v: Verdict) -> Step
+    requires { ⌜ (v .found ≡ true → Fits (now s) at v) ⌝ }
+    ensures { λ r. ⌜ r ≡ stepOf (now (s .entry)) at v ⌝ }
+{
+    if v.found {
+        return Step {
+            refusal: Refusal::none(),
+            found: true,
+            element: element_at(s, at, v),
+            rest: at + 5,
+            next: Cursor { at: v.next },
+        };
+    }
+    let refusal = v.refusal;
+    Step {
+        refusal,
         found: false,
         element: Element {
             token: 0,
@@ -147,136 +352,7 @@ fn refused(number: u8, place: usize) -> Step
             event: no_event(),
         },
         rest: 0,
-        next: Cursor { at: 0 },
-    }
-}
-
-// Another ID: passed over.
-fn skipped(next: usize) -> Step
-    ensures { λ r. ⌜ r ≡ skippedStep next ⌝ }
-{
-    let mut step = refused(0, 0);
-    step.next.at = next;
-    step
-}
-
-// An element with n octets of body.
-fn plain(s: &[u8], at: usize, n: usize, subs: usize) -> Step
-    requires { ⌜ (3 ≤ n) × (at + 2 + n ≤ length (now s)) ⌝ }
-    ensures { λ r. ⌜ r ≡ plainStep (now (s .entry)) at n subs ⌝ }
-{
-    Step {
-        refusal: Refusal::none(),
-        found: true,
-        element: Element {
-            token: octet(s, at + 2),
-            ty: octet(s, at + 3),
-            status: octet(s, at + 4),
-            length: n - 3,
-            subs,
-            logged: false,
-            event: no_event(),
-        },
-        rest: at + 5,
-        next: Cursor { at: at + 2 + n },
-    }
-}
-
-// An element with a transition.
-fn logged(s: &[u8], at: usize) -> Step
-    requires { ⌜ at + 35 ≤ length (now s) ⌝ }
-    ensures { λ r. ⌜ r ≡ loggedStep (now (s .entry)) at ⌝ }
-{
-    Step {
-        refusal: Refusal::none(),
-        found: true,
-        element: Element {
-            token: octet(s, at + 2),
-            ty: octet(s, at + 3),
-            status: octet(s, at + 4),
-            length: 30,
-            subs: 0,
-            logged: true,
-            event: event_at(s, at + 5),
-        },
-        rest: at + 5,
-        next: Cursor { at: at + 35 },
-    }
-}
-
-// An event report that is not Successful has nothing more.
-fn bare_step(s: &[u8], at: usize, n: usize) -> Step
-    requires { ⌜ (3 ≤ n) × (at + 2 + n ≤ length (now s)) ⌝ }
-    ensures { λ r. ⌜ r ≡ bareStep (now (s .entry)) at n ⌝ }
-{
-    if n == 3 {
-        return plain(s, at, n, 0);
-    }
-    refused(causes::REPORT_BODY, at)
-}
-
-// A Successful report of event type 0.
-fn transition_step(s: &[u8], at: usize, n: usize) -> Step
-    requires { ⌜ (3 ≤ n) × (at + 2 + n ≤ length (now s)) ⌝ }
-    ensures { λ r. ⌜ r ≡ transitionStep (now (s .entry)) at n ⌝ }
-{
-    if n == 3 {
-        return plain(s, at, n, 0);
-    }
-    if n != 33 {
-        return refused(causes::REPORT_BODY, at);
-    }
-    if !good_time(time_at(s, at + 5)) {
-        return refused(causes::TIME_FIELD, at);
-    }
-    logged(s, at)
-}
-
-fn event_step(s: &[u8], at: usize, n: usize) -> Step
-    requires { ⌜ (3 ≤ n) × (at + 2 + n ≤ length (now s)) ⌝ }
-    ensures { λ r. ⌜ r ≡ eventStep (now (s .entry)) at n ⌝ }
-{
-    if octet(s, at + 4) != numbers::SUCCESSFUL {
-        return bare_step(s, at, n);
-    }
-    let ty = octet(s, at + 3);
-    match ty {
-        0 => transition_step(s, at, n),
-        1..=255 => plain(s, at, n, 0),
-    }
-}
-
-fn walked_step(s: &[u8], at: usize, n: usize, w: Subelements) -> Step
-    requires { ⌜ (3 ≤ n) × (at + 2 + n ≤ length (now s)) ⌝ }
-    ensures { λ r. ⌜ r ≡ walkedStep (now (s .entry)) at n w ⌝ }
-{
-    if w.refusal.number != 0 {
-        return refused(w.refusal.number, w.refusal.place);
-    }
-    plain(s, at, n, w.count)
-}
-
-fn diagnostic_step(s: &[u8], at: usize, n: usize) -> Step
-    requires { ⌜ (3 ≤ n) × (at + 2 + n ≤ length (now s)) ⌝ }
-    ensures { λ r. ⌜ r ≡ diagnosticStep (now (s .entry)) at n ⌝ }
-{
-    walked_step(s, at, n, walk_edges(s, at + 5, at + 2 + n))
-}
-
-// An element of the frame's own ID, with n octets of body.
-fn own_step(s: &[u8], kind: Kind, at: usize, n: usize) -> Step
-    requires { ⌜ at + 2 + n ≤ length (now s) ⌝ }
-    ensures { λ r. ⌜ r ≡ ownStep (now (s .entry)) kind at n ⌝ }
-{
-    if n < 3 {
-        return refused(causes::ELEMENT_LENGTH, at);
-    }
-    if numbers::CANCELLED < octet(s, at + 4) {
-        return refused(causes::REPORT_BODY, at);
-    }
-    match kind {
-        Kind::Event => event_step(s, at, n),
-        Kind::Diagnostic => diagnostic_step(s, at, n),
+        next: Cursor { at: v.next },
     }
 }
 
@@ -295,14 +371,7 @@ impl Cursor {
         ensures { λ r. ⌜ r ≡ stepAt (now (s .entry)) kind (self .at) ⌝ }
     {
         let at = self.at;
-        let end = piece_end(s, at, s.len());
-        if end == 0 {
-            return refused(causes::ELEMENT_EDGE, at);
-        }
-        if octet(s, at) != kind.report_id() {
-            return skipped(end);
-        }
-        own_step(s, kind, at, size(s, at + 1))
+        step_of(s, at, judge_at(s, kind, at))
     }
 }
 
@@ -315,17 +384,18 @@ fn walk_of(refusal: Refusal, at: usize, count: usize) -> Walk
 }
 
 // Behind one more element.
-fn advance(w: Walk, step: Step) -> Walk
+fn advance(w: Walk, v: Verdict) -> Walk
     requires { ⌜ w .count + 1 < 2 ^ 64 ⌝ }
-    ensures { λ r. ⌜ r ≡ advanced w step ⌝ }
+    ensures { λ r. ⌜ ((t : Step) → v ≡ verdictOf t → r ≡ advanced w t) ⌝ }
 {
-    if step.refusal.number != 0 {
-        return walk_of(step.refusal, 0, 0);
+    let refusal = v.refusal;
+    if refusal.number != 0 {
+        return walk_of(refusal, 0, 0);
     }
-    if step.found {
-        return walk_of(Refusal::none(), step.next.at, w.count + 1);
+    if v.found {
+        return walk_of(Refusal::none(), v.next, w.count + 1);
     }
-    walk_of(Refusal::none(), step.next.at, w.count)
+    walk_of(Refusal::none(), v.next, w.count)
 }
 
 fn judge(s: &[u8], kind: Kind) -> Walk
@@ -333,8 +403,7 @@ fn judge(s: &[u8], kind: Kind) -> Walk
 {
     let mut w = walk_of(Refusal::none(), 3, 0);
     while w.at < s.len() {
-        let cursor = Cursor { at: w.at };
-        w = advance(w, cursor.next(s, kind));
+        w = advance(w, judge_at(s, kind, w.at));
         if w.refusal.number != 0 {
             return w;
         }

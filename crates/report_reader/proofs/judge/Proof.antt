@@ -1,7 +1,7 @@
 -- `report_reader::judge` meets its contract. The invariant, `Rest`: what is left of the walk gives what the whole walk gives.
 -- Assumes nothing.
 use Prim.Native.Nat.{_-_, _≤_}
-use mathlib.Core.Path.{_≡_, refl, _∙_}
+use mathlib.Core.Path.{_≡_, refl}
 use native.Mathlib.Omega.{arith}
 use lib.ListN.{length}
 use Rattle.laws.proofs.Walk.{Rest, start, last, again, done, go-on, stop-refused, stop-end}
@@ -28,8 +28,8 @@ unfolding judge
 loop-holds c =
     rw (c .walk-of .ensures, c .before .none .ensures) (refl, omega arith, start _ _ (length (c .before .before .before .args .s .now)) _ _ (omega arith))
 
-next-requires : tie.Need-next-requires Inv-loop μ-loop
-next-requires c κs = search needs
+judge-at-requires : tie.Need-judge-at-requires Inv-loop μ-loop
+judge-at-requires c κs = search needs
 
 advance-requires : tie.Need-advance-requires Inv-loop μ-loop
 advance-requires c κs = search needs
@@ -39,21 +39,21 @@ unfolding judgeStep
 returns c =
     let l = c .before .before .before .before .before .before .loop in
     let s = c .before .before .before .before .before .before .before .before .before .before .args .s .now in
-    last (l .inv .2) (go-on _ _ _ (l .inv .0) (c .before .before .before .before .if1 .taken)) (omega arith) (c .before .before .advance .ensures ∙ rw (c .before .before .before .next .ensures)) (stop-refused _ (c .before .before .advance .result .at) (length s) (c .if2 .taken))
+    last (l .inv .2) (go-on _ _ _ (l .inv .0) (c .before .before .before .before .if1 .taken)) (omega arith) (c .before .before .advance .ensures _ (c .before .before .before .judge-at .ensures)) (stop-refused _ (c .before .before .advance .result .at) (length s) (c .if2 .taken))
 
 loop-less : tie.Need-loop-less Inv-loop μ-loop
 unfolding judgeStep
 loop-less c =
     let l = c .before .before .before .before .before .before .loop in
-    let m = moved (c .before .before .before .before .before .before .before .before .before .before .args .s .now) (c .before .before .before .before .before .before .before .before .before .before .args .kind) {w = l .w} (c .before .before .advance .ensures ∙ rw (c .before .before .before .next .ensures)) (l .inv .1) (c .if2 .left) in
+    let m = moved (c .before .before .before .before .before .before .before .before .before .before .args .s .now) (c .before .before .before .before .before .before .before .before .before .before .args .kind) {w = l .w} (c .before .before .advance .ensures _ (c .before .before .before .judge-at .ensures)) (l .inv .1) (c .if2 .left) in
     omega (arith, m .on, c .before .before .before .before .if1 .taken)
 
 loop-again : tie.Need-loop-again Inv-loop μ-loop
 unfolding judgeStep
 loop-again c =
     let l = c .before .before .before .before .before .before .loop in
-    let m = moved (c .before .before .before .before .before .before .before .before .before .before .args .s .now) (c .before .before .before .before .before .before .before .before .before .before .args .kind) {w = l .w} (c .before .before .advance .ensures ∙ rw (c .before .before .before .next .ensures)) (l .inv .1) (c .if2 .left) in
-    (c .if2 .left, m .counted, again _ (l .inv .2) (go-on _ _ _ (l .inv .0) (c .before .before .before .before .if1 .taken)) (omega (arith, m .on, c .before .before .before .before .if1 .taken)) (c .before .before .advance .ensures ∙ rw (c .before .before .before .next .ensures)))
+    let m = moved (c .before .before .before .before .before .before .before .before .before .before .args .s .now) (c .before .before .before .before .before .before .before .before .before .before .args .kind) {w = l .w} (c .before .before .advance .ensures _ (c .before .before .before .judge-at .ensures)) (l .inv .1) (c .if2 .left) in
+    (c .if2 .left, m .counted, again _ (l .inv .2) (go-on _ _ _ (l .inv .0) (c .before .before .before .before .if1 .taken)) (omega (arith, m .on, c .before .before .before .before .if1 .taken)) (c .before .before .advance .ensures _ (c .before .before .before .judge-at .ensures)))
 
 returns-2 : tie.Need-returns-2 Inv-loop μ-loop
 returns-2 c = done (c .before .before .loop .inv .2) (stop-end _ _ _ (c .before .before .loop .inv .0) (c .if1 .left))
@@ -67,7 +67,7 @@ judge-spec =
     none-requires
     walk-of-requires
     loop-holds
-    next-requires
+    judge-at-requires
     advance-requires
     returns
     loop-less

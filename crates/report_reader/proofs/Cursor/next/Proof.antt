@@ -1,72 +1,19 @@
 -- `report_reader::next` meets its contract.
 -- Assumes nothing.
 use mathlib.Core.Path.{_∙_}
-use native.Mathlib.Omega.{arith}
-use lib.ListN.{length}
-use borrow.Author.Tests.{eq-eqb, ne-eqb}
-use Rattle.laws.specs.Choice.{if_then_else_}
-use Rattle.octets.proofs.ElementLaws.{piece-ends}
-use Rattle.report_reader.specs.Reader.{stepAt}
+use Rattle.report_reader.proofs.Laws.{step-told, step-fits}
 use borrow.Author.Needs.{needs}
 use Rattle.report_reader.proofs.Cursor.next.Statement.{statement}
 use Rattle.report_reader.proofs.Cursor.next.Tie as tie
 
-piece-end-requires : tie.Need-piece-end-requires
-piece-end-requires c κs = search needs
+judge-at-requires : tie.Need-judge-at-requires
+judge-at-requires c κs = search needs
 
-refused-requires : tie.Need-refused-requires
-refused-requires c κs = search needs
+step-of-requires : tie.Need-step-of-requires
+step-of-requires c κs = let a = c .before .before .args in step-fits (a .s .now) (a .kind) (a .self .at) (c .judge-at .ensures)
 
 returns : tie.Need-returns
-unfolding stepAt if_then_else_
-returns c = rw (← c .before .before .piece-end .ensures, eq-eqb _ 0 (c .before .if1 .taken)) (c .refused .ensures)
-
-octet-requires : tie.Need-octet-requires
-octet-requires c κs = search needs
-
-report-id-requires : tie.Need-report-id-requires
-report-id-requires c κs = search needs
-
-skipped-requires : tie.Need-skipped-requires
-skipped-requires c κs = search needs
-
-returns-2 : tie.Need-returns-2
-unfolding stepAt if_then_else_
-returns-2 c =
-    rw (← c .before .before .before .before .before .piece-end .ensures, ne-eqb _ 0 (c .before .before .before .before .if1 .left), ← c .before .before .before .octet .ensures, ← c .before .before .report-id .ensures, ne-eqb _ _ (c .before .if2 .taken)) (c .skipped .ensures)
-
-add-size : tie.Need-add-size
-add-size c =
-    let a = c .before .before .before .before .before .before .args in
-    let e = piece-ends (a .s .now) (a .self .at) (length (a .s .now)) (λ z. c .before .before .before .if1 .left (c .before .before .before .before .piece-end .ensures ∙ z)) in
-    omega (arith, e .is, e .within)
-
-size-requires : tie.Need-size-requires
-size-requires c κs = search needs
-
-own-step-requires : tie.Need-own-step-requires
-own-step-requires c κs =
-    let a = c .before .before .before .before .before .before .before .args in
-    let e = piece-ends (a .s .now) (a .self .at) (length (a .s .now)) (λ z. c .before .before .before .before .if1 .left (c .before .before .before .before .before .piece-end .ensures ∙ z)) in
-    omega (arith, c .size .ensures .0, e .is, e .within)
-
-returns-3 : tie.Need-returns-3
-unfolding stepAt if_then_else_
-returns-3 c =
-    rw (← c .before .before .before .before .before .before .piece-end .ensures, ne-eqb _ 0 (c .before .before .before .before .before .if1 .left), ← c .before .before .before .before .octet .ensures, ← c .before .before .before .report-id .ensures, eq-eqb _ _ (c .before .before .if2 .left), ← c .before .size .ensures .0) (c .own-step .ensures)
+returns c = let a = c .before .before .before .args in c .step-of .ensures ∙ rw (c .before .judge-at .ensures) (step-told (a .s .now) (a .kind) (a .self .at))
 
 pub next-spec : {M : Type 1} → statement M
-next-spec =
-    tie.close
-    (tie.spec
-    piece-end-requires
-    refused-requires
-    returns
-    octet-requires
-    report-id-requires
-    skipped-requires
-    returns-2
-    add-size
-    size-requires
-    own-step-requires
-    returns-3)
+next-spec = tie.close (tie.spec judge-at-requires step-of-requires returns)

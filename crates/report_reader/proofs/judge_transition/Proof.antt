@@ -1,18 +1,18 @@
--- `report_reader::transition_step` meets its contract: each return rewrites with the tests that led there.
+-- `report_reader::judge_transition` meets its contract: each return rewrites with the tests that led there.
 -- Assumes nothing.
 use borrow.Author.Tests.{eq-eqb, ne-eqb}
 use Rattle.laws.specs.Choice.{if_then_else_}
 use Rattle.report_reader.specs.Reader.{transitionStep}
 use borrow.Author.Needs.{needs}
-use Rattle.report_reader.proofs.transition_step.Statement.{statement}
-use Rattle.report_reader.proofs.transition_step.Tie as tie
+use Rattle.report_reader.proofs.judge_transition.Statement.{statement}
+use Rattle.report_reader.proofs.judge_transition.Tie as tie
 
 plain-requires : tie.Need-plain-requires
 plain-requires c κs = search needs
 
 returns : tie.Need-returns
 unfolding transitionStep if_then_else_
-returns c = rw (eq-eqb _ 3 (c .before .if1 .taken)) (c .plain .ensures)
+returns c = rw (eq-eqb _ 3 (c .before .if1 .taken)) (c .plain .ensures (c .before .before .before .args .s .now))
 
 refused-requires : tie.Need-refused-requires
 refused-requires c κs = search needs
@@ -44,10 +44,10 @@ logged-requires c κs = search needs
 returns-4 : tie.Need-returns-4
 unfolding transitionStep if_then_else_
 returns-4 c =
-    rw (ne-eqb _ 3 (c .before .before .before .before .before .if1 .left), eq-eqb _ 33 (c .before .before .before .before .if2 .left), ← c .before .before .before .time-at .ensures, ← c .before .before .good-time .ensures, c .before .if3 .left) (c .logged .ensures)
+    rw (ne-eqb _ 3 (c .before .before .before .before .before .if1 .left), eq-eqb _ 33 (c .before .before .before .before .if2 .left), ← c .before .before .before .time-at .ensures, ← c .before .before .good-time .ensures, c .before .if3 .left) (c .logged .ensures (c .before .before .before .before .before .before .before .args .s .now))
 
-pub transition-step-spec : {M : Type 1} → statement M
-transition-step-spec =
+pub judge-transition-spec : {M : Type 1} → statement M
+judge-transition-spec =
     tie.close
     (tie.spec
     plain-requires

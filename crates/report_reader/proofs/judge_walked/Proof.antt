@@ -1,25 +1,25 @@
--- `report_reader::walked_step` meets its contract.
+-- `report_reader::judge_walked` meets its contract.
 -- Assumes nothing.
 use borrow.Author.Tests.{eq-eqb, ne-eqb}
 use Rattle.laws.specs.Choice.{if_then_else_}
 use Rattle.report_reader.specs.Reader.{walkedStep}
 use borrow.Author.Needs.{needs}
-use Rattle.report_reader.proofs.walked_step.Statement.{statement}
-use Rattle.report_reader.proofs.walked_step.Tie as tie
+use Rattle.report_reader.proofs.judge_walked.Statement.{statement}
+use Rattle.report_reader.proofs.judge_walked.Tie as tie
 
 refused-requires : tie.Need-refused-requires
 refused-requires c κs = search needs
 
 returns : tie.Need-returns
 unfolding walkedStep if_then_else_
-returns c = rw (ne-eqb _ 0 (c .before .if1 .taken)) (c .refused .ensures)
+returns c s = rw (ne-eqb _ 0 (c .before .if1 .taken)) (c .refused .ensures)
 
 plain-requires : tie.Need-plain-requires
 plain-requires c κs = search needs
 
 returns-2 : tie.Need-returns-2
 unfolding walkedStep if_then_else_
-returns-2 c = rw (eq-eqb _ 0 (c .before .if1 .left)) (c .plain .ensures)
+returns-2 c s = rw (eq-eqb _ 0 (c .before .if1 .left)) (c .plain .ensures s)
 
-pub walked-step-spec : {M : Type 1} → statement M
-walked-step-spec = tie.close (tie.spec refused-requires returns plain-requires returns-2)
+pub judge-walked-spec : {M : Type 1} → statement M
+judge-walked-spec = tie.close (tie.spec refused-requires returns plain-requires returns-2)

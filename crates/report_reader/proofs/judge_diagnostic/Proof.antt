@@ -1,9 +1,9 @@
--- `report_reader::diagnostic_step` meets its contract.
+-- `report_reader::judge_diagnostic` meets its contract.
 -- Assumes nothing.
 use Rattle.report_reader.specs.Reader.{diagnosticStep}
 use borrow.Author.Needs.{needs}
-use Rattle.report_reader.proofs.diagnostic_step.Statement.{statement}
-use Rattle.report_reader.proofs.diagnostic_step.Tie as tie
+use Rattle.report_reader.proofs.judge_diagnostic.Statement.{statement}
+use Rattle.report_reader.proofs.judge_diagnostic.Tie as tie
 
 add-walk-edges : tie.Need-add-walk-edges
 add-walk-edges c = search needs
@@ -17,20 +17,20 @@ add-walk-edges-3 c = search needs
 walk-edges-requires : tie.Need-walk-edges-requires
 walk-edges-requires c κs = search needs
 
-walked-step-requires : tie.Need-walked-step-requires
-walked-step-requires c κs = search needs
+judge-walked-requires : tie.Need-judge-walked-requires
+judge-walked-requires c κs = search needs
 
 returns : tie.Need-returns
 unfolding diagnosticStep
-returns c = rw (← c .before .walk-edges .ensures) (c .walked-step .ensures)
+returns c = rw (← c .before .walk-edges .ensures) (c .judge-walked .ensures (c .before .before .before .args .s .now))
 
-pub diagnostic-step-spec : {M : Type 1} → statement M
-diagnostic-step-spec =
+pub judge-diagnostic-spec : {M : Type 1} → statement M
+judge-diagnostic-spec =
     tie.close
     (tie.spec
     add-walk-edges
     add-walk-edges-2
     add-walk-edges-3
     walk-edges-requires
-    walked-step-requires
+    judge-walked-requires
     returns)

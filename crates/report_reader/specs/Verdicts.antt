@@ -1,0 +1,44 @@
+-- What the judgement of a frame sees of a step, and the step by that and the frame: proofs/Laws.antt has stepOf s at (verdictOf (stepAt s kind at)) ≡ stepAt s kind at.
+-- Assumes nothing.
+use Prim.Native.Nat.{ℕ, _+_, _-_, _≤_}
+use mathlib.Core.Path.{_≡_}
+use mathlib.Core.Bool.{Bool, true, false}
+use mathlib.Core.List.{List}
+use lib.ListN.{length, getD}
+use Rattle.laws.specs.Choice.{if_then_else_}
+use Rattle.report_reader.specs.declared.Event.{Event}
+use Rattle.report_reader.specs.declared.Element.{Element}
+use Rattle.report_reader.specs.declared.Step.{Step}
+use Rattle.report_reader.specs.declared.Verdict.{Verdict}
+use Rattle.report_reader.specs.Reader.{noEvent, eventAt, plainElement, foundStep}
+
+-- all but the fields that are only handed out
+unfoldable pub verdictOf : Step → Verdict
+verdictOf t = record { refusal = t .refusal; found = t .found; logged = t .element .logged; subs = t .element .subs; next = t .next .at }
+
+-- ---- the fields of what was found at a position
+
+unfoldable pub transitionAt : List ℕ → ℕ → Bool → Event
+transitionAt s at logged = if logged then eventAt s at else noEvent
+
+unfoldable pub elementAt : List ℕ → ℕ → Verdict → Element
+elementAt s at v = record {
+  token = getD s (at + 2) 0;
+  ty = getD s (at + 3) 0;
+  status = getD s (at + 4) 0;
+  length = v .next - (at + 5);
+  subs = v .subs;
+  logged = v .logged;
+  event = transitionAt s (at + 5) (v .logged);
+}
+
+-- what was found stands in the frame, with its token, type and status, and with its transition
+pub record Fits (s : List ℕ) (at : ℕ) (v : Verdict) : Type 0 where
+  pub head : at + 5 ≤ v .next
+  pub within : v .next ≤ length s
+  pub event : v .logged ≡ true → at + 35 ≤ length s
+
+unfoldable pub stepOf : List ℕ → ℕ → Verdict → Step
+stepOf s at v =
+    if v .found then foundStep (elementAt s at v) (at + 5) (v .next)
+    else record { refusal = v .refusal; found = false; element = plainElement 0 0 0 0 0; rest = 0; next = record { at = v .next } }
