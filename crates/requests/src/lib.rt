@@ -302,7 +302,8 @@ fn read_kind(s: &[u8], kind: Kind) -> Request
     request_of(kind, dialog, walk_elements(s, kind))
 }
 
-// Reads one request frame.
+// Reads one request frame. One call of its reader for both kinds: the compiler then makes the request
+// where the caller wants it.
 pub fn read_request(s: &[u8]) -> Request
     ensures { λ r. ⌜ r ≡ readRequest (now (s .entry)) ⌝ }
 {
@@ -316,11 +317,12 @@ pub fn read_request(s: &[u8]) -> Request
         return refused_request(causes::FRAME_HEADER, 0);
     }
     let action = octet(s, 1);
-    if action == Kind::Event.request_action() {
-        return read_kind(s, Kind::Event);
+    let mut kind = Kind::Event;
+    if action != Kind::Event.request_action() {
+        if action != Kind::Diagnostic.request_action() {
+            return refused_request(causes::FRAME_HEADER, 0);
+        }
+        kind = Kind::Diagnostic;
     }
-    if action == Kind::Diagnostic.request_action() {
-        return read_kind(s, Kind::Diagnostic);
-    }
-    refused_request(causes::FRAME_HEADER, 0)
+    read_kind(s, kind)
 }

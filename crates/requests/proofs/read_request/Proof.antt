@@ -1,9 +1,10 @@
 -- `requests::read_request` meets its contract: each return rewrites with the tests that led there.
 -- Assumes nothing.
-use mathlib.Core.Path.{sym, _∙_}
+use mathlib.Core.Path.{sym, ap, _∙_}
+use mathlib.Core.Logic.{⊎-elim}
 use borrow.Author.Tests.{lt-ltb, le-ltb, eq-eqb, ne-eqb}
 use Rattle.laws.specs.Choice.{if_then_else_}
-use Rattle.requests.specs.Requests.{readRequest}
+use Rattle.requests.specs.Requests.{readKind, readRequest}
 use borrow.Author.Needs.{needs}
 use Rattle.requests.proofs.read_request.Statement.{statement}
 use Rattle.requests.proofs.read_request.Tie as tie
@@ -39,32 +40,31 @@ octet-requires-2 c κs = search needs
 request-action-requires : tie.Need-request-action-requires
 request-action-requires c κs = search needs
 
-read-kind-requires : tie.Need-read-kind-requires
-read-kind-requires c κs = search needs
-
-returns-4 : tie.Need-returns-4
-unfolding readRequest if_then_else_
-returns-4 c =
-    rw (le-ltb _ _ (c .before .before .before .before .before .before .before .if1 .left), le-ltb _ _ (c .before .before .before .before .before .before .if2 .left), ← c .before .before .before .before .before .octet .ensures, eq-eqb _ _ (c .before .before .before .before .if3 .left), ← c .before .before .before .octet2 .ensures, eq-eqb _ _ (c .before .if4 .taken ∙ c .before .before .request-action .ensures)) (c .read-kind .ensures)
-
 request-action-requires-2 : tie.Need-request-action-requires-2
 request-action-requires-2 c κs = search needs
-
-read-kind-requires-2 : tie.Need-read-kind-requires-2
-read-kind-requires-2 c κs = search needs
-
-returns-5 : tie.Need-returns-5
-unfolding readRequest if_then_else_
-returns-5 c =
-    rw (le-ltb _ _ (c .before .before .before .before .before .before .before .before .before .if1 .left), le-ltb _ _ (c .before .before .before .before .before .before .before .before .if2 .left), ← c .before .before .before .before .before .before .before .octet .ensures, eq-eqb _ _ (c .before .before .before .before .before .before .if3 .left), ← c .before .before .before .before .before .octet2 .ensures, ne-eqb _ _ (λ z. c .before .before .before .if4 .left (z ∙ sym (c .before .before .before .before .request-action .ensures))), eq-eqb _ _ (c .before .if5 .taken ∙ c .before .before .request-action2 .ensures)) (c .read-kind2 .ensures)
 
 refused-request-requires-4 : tie.Need-refused-request-requires-4
 refused-request-requires-4 c κs = search needs
 
-returns-6 : tie.Need-returns-6
+returns-4 : tie.Need-returns-4
 unfolding readRequest if_then_else_
-returns-6 c =
-    rw (le-ltb _ _ (c .before .before .before .before .before .before .before .before .before .if1 .left), le-ltb _ _ (c .before .before .before .before .before .before .before .before .if2 .left), ← c .before .before .before .before .before .before .before .octet .ensures, eq-eqb _ _ (c .before .before .before .before .before .before .if3 .left), ← c .before .before .before .before .before .octet2 .ensures, ne-eqb _ _ (λ z. c .before .before .before .if4 .left (z ∙ sym (c .before .before .before .before .request-action .ensures))), ne-eqb _ _ (λ z. c .before .if5 .left (z ∙ sym (c .before .before .request-action2 .ensures)))) (c .refused-request4 .ensures)
+returns-4 c =
+    rw (le-ltb _ _ (c .before .before .before .before .before .before .before .before .before .if1 .left), le-ltb _ _ (c .before .before .before .before .before .before .before .before .if2 .left), ← c .before .before .before .before .before .before .before .octet .ensures, eq-eqb _ _ (c .before .before .before .before .before .before .if3 .left), ← c .before .before .before .before .before .octet2 .ensures, ne-eqb _ _ (λ z. c .before .before .before .if4 .taken (z ∙ sym (c .before .before .before .before .request-action .ensures))), ne-eqb _ _ (λ z. c .before .if5 .taken (z ∙ sym (c .before .before .request-action2 .ensures)))) (c .refused-request4 .ensures)
+
+read-kind-requires : tie.Need-read-kind-requires
+read-kind-requires c κs = search needs
+
+returns-5 : tie.Need-returns-5
+unfolding readRequest if_then_else_
+returns-5 c =
+    let s = c .before .before .before .before .before .before .before .before .before .args .s .now in
+    let action = c .before .before .request-action .ensures in
+    rw (le-ltb _ _ (c .before .before .before .before .before .before .before .if1 .left), le-ltb _ _ (c .before .before .before .before .before .before .if2 .left), ← c .before .before .before .before .before .octet .ensures, eq-eqb _ _ (c .before .before .before .before .if3 .left), ← c .before .before .before .octet2 .ensures)
+    (c .read-kind .ensures
+    ∙ ⊎-elim
+    (λ w. ap (readKind s) (w .3) ∙ rw (ne-eqb _ _ (λ z. w .0 .taken (z ∙ sym action)), eq-eqb _ _ (w .2 .left ∙ w .1 .ensures)))
+    (λ w. ap (readKind s) (w .1) ∙ rw (eq-eqb _ _ (w .0 .left ∙ action)))
+    (c .before .if4 .came))
 
 pub read-request-spec : {M : Type 1} → statement M
 read-request-spec =
@@ -79,10 +79,8 @@ read-request-spec =
     returns-3
     octet-requires-2
     request-action-requires
-    read-kind-requires
-    returns-4
     request-action-requires-2
-    read-kind-requires-2
-    returns-5
     refused-request-requires-4
-    returns-6)
+    returns-4
+    read-kind-requires
+    returns-5)
