@@ -14,6 +14,9 @@ use std::mem::MaybeUninit;
 use std::time::Instant;
 
 const STATIONS: usize = 8;
+/// Where stations lie: the batches take the next eight of these in turn, so that no chance of two
+/// addresses' distance, which a copy's speed depends on, lasts for a whole run.
+const PLACES: usize = 256;
 const BATCHES: usize = 20_001;
 
 const GATE: [u8; 6] = [2, 0, 0, 0, 0, 1];
@@ -268,7 +271,8 @@ struct Given {
 struct Runner<S: Side> {
     station: S,
     frame: Vec<u8>,
-    stations: [S; STATIONS],
+    places: Vec<S>,
+    first: usize,
     given: Given,
 }
 
@@ -277,16 +281,23 @@ impl<S: Side> Runner<S> {
         let (station, frame) = prepare::<S>(case);
         let none = Answer { code: 9, number: 0, place: 0, length: 0 };
         let given = Given { answers: [none; STATIONS], reads: [(0, 0); STATIONS], buffer: vec![0xAA; 2304] };
-        Runner { station, frame, stations: [station; STATIONS], given }
+        Runner { station, frame, places: vec![station; PLACES], first: 0, given }
+    }
+
+    fn stations(&mut self) -> &mut [S] {
+        &mut self.places[self.first..self.first + STATIONS]
     }
 
     fn reset(&mut self) {
-        self.stations = [black_box(self.station); STATIONS];
+        self.first = (self.first + STATIONS) % PLACES;
+        let station = black_box(self.station);
+        self.stations().fill(station);
     }
 
     fn calls(&mut self, case: &Case) {
         let given = &mut self.given;
-        for (i, station) in self.stations.iter_mut().enumerate() {
+        let stations = &mut self.places[self.first..self.first + STATIONS];
+        for (i, station) in stations.iter_mut().enumerate() {
             match &case.call {
                 Call::Tick => given.answers[i] = station.tick(black_box(70_000)),
                 Call::Log => given.answers[i] = station.log(black_box(70_000), &transition(70)),
@@ -342,7 +353,7 @@ fn measure(case: &Case) -> (f64, f64, f64) {
         theirs.push(b);
         ratios.push(a / b);
     }
-    assert_eq!(probe(&mut proved.stations[0]), probe(&mut twin.stations[0]), "{}", case.name);
+    assert_eq!(probe(&mut proved.stations()[0]), probe(&mut twin.stations()[0]), "{}", case.name);
     (median(&mut ours), median(&mut theirs), median(&mut ratios))
 }
 
