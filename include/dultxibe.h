@@ -71,9 +71,9 @@ struct dultxibe_condition {
 struct dultxibe_request_element {
     uint8_t token;
     uint8_t type;
-    uint8_t limit;
-    uint8_t subs;
     uint16_t timeout;
+    uint16_t subs;
+    uint8_t limit;
     struct dultxibe_condition filter[5];
 };
 
@@ -277,10 +277,10 @@ DULTXIBE_AT(dultxibe_condition, octets, 1);
 
 DULTXIBE_SIZE(dultxibe_request_element, 42);
 DULTXIBE_AT(dultxibe_request_element, type, 1);
-DULTXIBE_AT(dultxibe_request_element, limit, 2);
-DULTXIBE_AT(dultxibe_request_element, subs, 3);
-DULTXIBE_AT(dultxibe_request_element, timeout, 4);
-DULTXIBE_AT(dultxibe_request_element, filter, 6);
+DULTXIBE_AT(dultxibe_request_element, timeout, 2);
+DULTXIBE_AT(dultxibe_request_element, subs, 4);
+DULTXIBE_AT(dultxibe_request_element, limit, 6);
+DULTXIBE_AT(dultxibe_request_element, filter, 7);
 
 DULTXIBE_SIZE(dultxibe_request, 352);
 DULTXIBE_AT(dultxibe_request, dialog, 1);

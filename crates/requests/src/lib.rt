@@ -25,14 +25,15 @@ pub const MOST_ELEMENTS: usize = 8;
 
 // One request element: its token and type (ty), the response limit of an event, the timeout in
 // seconds of a diagnostic, the number of subelements walked, and the conditions of event type 0.
-// What the kind of the frame does not have is 0.
+// What the kind of the frame does not have is 0. The fields lie without a gap: blank elements are then
+// one run of zeros.
 #[repr(C)]
 pub struct Element {
     pub token: u8,
     pub ty: u8,
-    pub limit: u8,
-    pub subs: u8,
     pub timeout: u16,
+    pub subs: u16,
+    pub limit: u8,
     pub filter: [Condition; 5],
 }
 
@@ -130,7 +131,7 @@ fn element_of(s: &[u8], kind: Kind, at: usize, subs: Subelements) -> Element
         token: octet(s, at + 2),
         ty: octet(s, at + 3),
         limit: limit_at(s, kind, at),
-        subs: subs.count as u8,
+        subs: subs.count as u16,
         timeout: timeout_at(s, kind, at),
         filter,
     }
