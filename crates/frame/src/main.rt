@@ -7,7 +7,7 @@ fn main() {
     // One octet more than the longest frame has, so that a longer input is seen to be longer.
     let mut frame = [0u8; 2305];
     let n = io::read_full(STDIN_FILENO, &mut frame);
-    let mut text = [0u8; 512];
+    let mut text = [0u8; 544];
     let length = list_frame(&frame[..n], &mut text);
     io::write_all(STDOUT_FILENO, &text[..length]);
 }

@@ -4,7 +4,7 @@ use libc::STDOUT_FILENO;
 use request_listing::list_frame;
 
 fn show(frame: &[u8]) {
-    let mut text = [0u8; 512];
+    let mut text = [0u8; 544];
     let length = list_frame(frame, &mut text);
     io::write_all(STDOUT_FILENO, &text[..length]);
 }

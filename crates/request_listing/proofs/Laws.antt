@@ -94,7 +94,7 @@ pub record Bounds (e : Element) : Type 0 where
   pub token : e .token < 256
   pub ty : e .ty < 256
   pub limit : e .limit < 256
-  pub subs : e .subs < 256
+  pub subs : e .subs < 65536
   pub timeout : e .timeout < 65536
 
 octet-field : (word : List ℕ) (n : ℕ) → n < 256 → length (field word n) ≤ length word + 3
@@ -113,7 +113,7 @@ action-small : (kind : Kind) → requestAction kind < 256
 action-small Event = omega arith
 action-small Diagnostic = omega arith
 
-pub line-length : (kind : Kind) (e : Element) → Bounds e → length (elementLine kind e) ≤ 56
+pub line-length : (kind : Kind) (e : Element) → Bounds e → length (elementLine kind e) ≤ 58
 unfolding elementLine
 line-length kind e b =
     let f₁ : List ℕ = field elementWord (requestId kind) in
@@ -132,7 +132,7 @@ line-length kind e b =
       octet-field tokenWord (e .token) (b .token),
       octet-field typeWord (e .ty) (b .ty),
       limit-length kind e b,
-      octet-field subsWord (e .subs) (b .subs),
+      field-length 5 (e .subs) (omega (arith, b .subs)) (omega arith) subsWord,
     )
 
 pub frame-line-length : (kind : Kind) (dialog count : ℕ) → dialog < 256 → count < 10 ^ 20 → length (frameLine kind dialog count) ≤ 60
@@ -195,11 +195,11 @@ pub record Lining (kind : Kind) (es : List Element) (count from : ℕ) (s buf : 
   pub within : i ≤ count
   pub eight : length es ≡ 8
   pub start : from ≤ 60
-  pub room : 512 ≤ length s
-  pub short : length (elementLines kind (take i es)) ≤ 56 * i
+  pub room : 544 ≤ length s
+  pub short : length (elementLines kind (take i es)) ≤ 58 * i
   pub does : wrote at buf ≡ putAt (elementLines kind (take i es)) from s
 
-pub lining-start : (kind : Kind) (es : List Element) (count from : ℕ) (s : List ℕ) → length es ≡ 8 → from ≤ 60 → 512 ≤ length s → Lining kind es count from s s from 0
+pub lining-start : (kind : Kind) (es : List Element) (count from : ℕ) (s : List ℕ) → length es ≡ 8 → from ≤ 60 → 544 ≤ length s → Lining kind es count from s s from 0
 unfolding pieces
 lining-start kind es count from s eight start room =
     record { few = omega arith; within = omega arith; eight = eight; start = start; room = room; short = omega arith; does = put-none s from (omega arith) }
@@ -208,20 +208,20 @@ module _ {kind : Kind} {es : List Element} {count from : ℕ} {s buf : List ℕ}
   within-room : from + length (elementLines kind (take i es)) ≤ length s
   within-room = omega (arith, l .few, l .start, l .room, l .short)
 
-  pub lining-at : at ≤ 60 + 56 * i
+  pub lining-at : at ≤ 60 + 58 * i
   lining-at = omega (arith, put-answer (elementLines kind (take i es)) s from within-room at buf (l .does), l .start, l .short)
 
   pub lining-length : length buf ≡ length s
   lining-length = put-length (elementLines kind (take i es)) s from within-room at buf (l .does)
 
-  pub lining-next : i < count → i < 8 → (n : ℕ) (y : List ℕ) → wrote n y ≡ putAt (elementLine kind (getD es i pastElements)) at buf → length (elementLine kind (getD es i pastElements)) ≤ 56
+  pub lining-next : i < count → i < 8 → (n : ℕ) (y : List ℕ) → wrote n y ≡ putAt (elementLine kind (getD es i pastElements)) at buf → length (elementLine kind (getD es i pastElements)) ≤ 58
       → Lining kind es count from s y n (i + 1)
   lining-next more next n y does small =
       let x : Element = getD es i pastElements in
       let h : List ℕ = elementLines kind (take i es) in
       let taken : take (i + 1) es ≡ take i es ++ (x ∷ []) = rw add-one (take-suc es i pastElements (omega (arith, l .eight))) in
       let all : elementLines kind (take (i + 1) es) ≡ h ++ elementLine kind x = ap (elementLines kind) taken ∙ pieces-snoc (elementLine kind) 0 (take i es) x in
-      let n₁ : length (h ++ elementLine kind x) ≤ 56 * (i + 1) = omega (arith, length-append h (elementLine kind x), l .short) in
+      let n₁ : length (h ++ elementLine kind x) ≤ 58 * (i + 1) = omega (arith, length-append h (elementLine kind x), l .short) in
       record {
         few = omega arith;
         within = omega arith;
@@ -233,7 +233,7 @@ module _ {kind : Kind} {es : List Element} {count from : ℕ} {s buf : List ℕ}
       }
 
   -- at the end all that there are stand there
-  pub lining-end : length (take count es) ≤ i → (wrote at buf ≡ putAt (elementLines kind (take count es)) from s) × (length (elementLines kind (take count es)) ≤ 448)
+  pub lining-end : length (take count es) ≤ i → (wrote at buf ≡ putAt (elementLines kind (take count es)) from s) × (length (elementLines kind (take count es)) ≤ 464)
   lining-end h =
       let same : take count es ≡ take i es = take-same h in
       (rw same (l .does), rw same (omega (arith, l .short, l .few)))
@@ -244,16 +244,16 @@ module _ {kind : Kind} {es : List Element} {count from : ℕ} {s buf : List ℕ}
 -- ---- the whole
 
 module _ (r : Request) (s : List ℕ) where
-  pub listed-short : length s < 512 → wrote 0 s ≡ listed r s
+  pub listed-short : length s < 544 → wrote 0 s ≡ listed r s
   unfolding listed if_then_else_
-  listed-short h = rw (lt-ltb (length s) 512 h)
+  listed-short h = rw (lt-ltb (length s) 544 h)
 
-  pub listed-refusal : 512 ≤ length s → (r .refusal .number ≡ 0 → ⊥) → length (refusedLine (r .refusal)) ≤ 60 → putAt (refusedLine (r .refusal)) 0 s ≡ listed r s
+  pub listed-refusal : 544 ≤ length s → (r .refusal .number ≡ 0 → ⊥) → length (refusedLine (r .refusal)) ≤ 60 → putAt (refusedLine (r .refusal)) 0 s ≡ listed r s
   unfolding listed listing if_then_else_
-  listed-refusal h n small = put-front (refusedLine (r .refusal)) s (omega arith) ∙ rw (le-ltb (length s) 512 h, ne-eqb (r .refusal .number) 0 n)
+  listed-refusal h n small = put-front (refusedLine (r .refusal)) s (omega arith) ∙ rw (le-ltb (length s) 544 h, ne-eqb (r .refusal .number) 0 n)
 
-  pub listed-request : 512 ≤ length s → r .refusal .number ≡ 0 → (k m : ℕ) (y z : List ℕ)
-      → length (frameLine (r .kind) (r .dialog) (r .count)) ≤ 60 → length (elementLines (r .kind) (take (r .count) (r .elements))) ≤ 448
+  pub listed-request : 544 ≤ length s → r .refusal .number ≡ 0 → (k m : ℕ) (y z : List ℕ)
+      → length (frameLine (r .kind) (r .dialog) (r .count)) ≤ 60 → length (elementLines (r .kind) (take (r .count) (r .elements))) ≤ 464
       → wrote k y ≡ putAt (frameLine (r .kind) (r .dialog) (r .count)) 0 s → wrote m z ≡ putAt (elementLines (r .kind) (take (r .count) (r .elements))) k y
       → wrote m z ≡ listed r s
   unfolding listed listing if_then_else_
@@ -261,7 +261,7 @@ module _ (r : Request) (s : List ℕ) where
       let o₁ : List ℕ = frameLine (r .kind) (r .dialog) (r .count) in
       let o₂ : List ℕ = elementLines (r .kind) (take (r .count) (r .elements)) in
       let fits : length (o₁ ++ o₂) ≤ length s = omega (arith, length-append o₁ o₂) in
-      put-two o₁ o₂ s 0 (omega arith) k m y z first second ∙ put-front (o₁ ++ o₂) s fits ∙ rw (le-ltb (length s) 512 h, eq-eqb (r .refusal .number) 0 n)
+      put-two o₁ o₂ s 0 (omega arith) k m y z first second ∙ put-front (o₁ ++ o₂) s fits ∙ rw (le-ltb (length s) 544 h, eq-eqb (r .refusal .number) 0 n)
 
   -- the answer lies within the buffer
   pub listed-within : (n : ℕ) (y : List ℕ) → wrote n y ≡ listed r s → Within n y

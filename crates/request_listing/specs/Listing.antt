@@ -101,9 +101,9 @@ listing r =
     if not (eqb (r .refusal .number) 0) then refusedLine (r .refusal)
     else frameLine (r .kind) (r .dialog) (r .count) ++ elementLines (r .kind) (take (r .count) (r .elements))
 
--- into a buffer of at least 512 octets, answered by the text's length; into a shorter one nothing, answered by 0
+-- into a buffer of at least 544 octets, answered by the text's length; into a shorter one nothing, answered by 0
 abbrev pub listingBuffer : ℕ
-listingBuffer = 512
+listingBuffer = 544
 
 unfoldable pub listed : Request → List ℕ → Written
 listed r s = if ltb (length s) listingBuffer then wrote 0 s else wrote (length (listing r)) (onto (listing r) s)

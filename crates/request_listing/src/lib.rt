@@ -14,7 +14,7 @@ ghost use Rattle.laws.specs.Buffers.{wrote, putAt};
 ghost use Rattle.request_listing.specs.Listing.{field, frameLine, limitField, elementLine, refusedLine, elementLines, listed, listFrame, Within};
 
 // The octets that a buffer has at least; the longest listing has fewer.
-pub const LISTING_BUFFER: usize = 512;
+pub const LISTING_BUFFER: usize = 544;
 
 // A word and a number behind the first `at` octets, where they fit.
 fn put_field(buf: &mut [u8], at: usize, word: &[u8], n: u64) -> usize
@@ -35,8 +35,8 @@ fn put_limit(buf: &mut [u8], at: usize, kind: Kind, e: Element) -> usize
 
 // The line of an element behind the first `at` octets.
 fn put_line(buf: &mut [u8], at: usize, kind: Kind, e: Element) -> usize
-    requires { ⌜ at + 56 ≤ length (now buf) ⌝ }
-    ensures { λ r. ⌜ (wrote r (now (buf .exit)) ≡ putAt (elementLine kind e) at (now (buf .entry))) × (length (elementLine kind e) ≤ 56) ⌝ }
+    requires { ⌜ at + 58 ≤ length (now buf) ⌝ }
+    ensures { λ r. ⌜ (wrote r (now (buf .exit)) ≡ putAt (elementLine kind e) at (now (buf .entry))) × (length (elementLine kind e) ≤ 58) ⌝ }
 {
     let id = put_field(buf, at, b"element ", kind.request_id() as u64);
     let token = put_field(buf, id, b" token ", e.token as u64);
@@ -48,8 +48,8 @@ fn put_line(buf: &mut [u8], at: usize, kind: Kind, e: Element) -> usize
 
 // The lines of the elements behind the first line, which ends at from.
 fn put_lines(buf: &mut [u8], from: usize, kind: Kind, es: [Element; 8], count: usize) -> usize
-    requires { ⌜ (from ≤ 60) × (512 ≤ length (now buf)) ⌝ }
-    ensures { λ r. ⌜ (wrote r (now (buf .exit)) ≡ putAt (elementLines kind (take count es)) from (now (buf .entry))) × (length (elementLines kind (take count es)) ≤ 448) ⌝ }
+    requires { ⌜ (from ≤ 60) × (544 ≤ length (now buf)) ⌝ }
+    ensures { λ r. ⌜ (wrote r (now (buf .exit)) ≡ putAt (elementLines kind (take count es)) from (now (buf .entry))) × (length (elementLines kind (take count es)) ≤ 464) ⌝ }
 {
     let mut at = from;
     let mut i: usize = 0;
@@ -66,7 +66,7 @@ fn put_lines(buf: &mut [u8], from: usize, kind: Kind, es: [Element; 8], count: u
 
 // The first line at the front of a buffer.
 fn put_frame(buf: &mut [u8], kind: Kind, dialog: u8, count: usize) -> usize
-    requires { ⌜ 512 ≤ length (now buf) ⌝ }
+    requires { ⌜ 544 ≤ length (now buf) ⌝ }
     ensures { λ r. ⌜ (wrote r (now (buf .exit)) ≡ putAt (frameLine kind dialog count) 0 (now (buf .entry))) × (length (frameLine kind dialog count) ≤ 60) ⌝ }
 {
     let action = put_field(buf, 0, b"frame ", kind.request_action() as u64);
@@ -77,7 +77,7 @@ fn put_frame(buf: &mut [u8], kind: Kind, dialog: u8, count: usize) -> usize
 
 // The line of a refusal at the front of a buffer.
 fn put_refusal(buf: &mut [u8], r: Refusal) -> usize
-    requires { ⌜ 512 ≤ length (now buf) ⌝ }
+    requires { ⌜ 544 ≤ length (now buf) ⌝ }
     ensures { λ n. ⌜ (wrote n (now (buf .exit)) ≡ putAt (refusedLine r) 0 (now (buf .entry))) × (length (refusedLine r) ≤ 60) ⌝ }
 {
     let number = put_field(buf, 0, b"refused ", r.number as u64);
