@@ -5,9 +5,10 @@ use mathlib.Core.Path.{_≡_, refl, sym, ap, _∙_}
 use mathlib.Core.Bool.{Bool, true, false}
 use mathlib.Core.List.{List, [], _∷_, _++_, map}
 use mathlib.Core.Option.{none, some}
+use lib.Dec.{eqb}
 use lib.ListN.{length, take, drop}
 use lib.Seq.{take-length, take-at, take-all}
-use borrow.Author.Tests.{ltb-false, eq-eqb, ne-eqb}
+use borrow.Author.Tests.{ltb-false, eqb-true, eqb-false, eq-eqb, ne-eqb}
 use native.Mathlib.Omega.{arith}
 use Rattle.laws.specs.Choice.{if_then_else_}
 use Rattle.laws.proofs.Choice.{either}
@@ -22,6 +23,7 @@ use Rattle.identities.specs.Identity.{stands, passRow, goodFrom, goodIdentity}
 use Rattle.model.specs.Requesters.{badList, newRequester}
 use Rattle.requesters.specs.Views.{viewRequester}
 use Rattle.requesters.specs.Views.{viewIdentity}
+use Rattle.station.specs.Calls.{renameCause}
 use Rattle.station.specs.Views.{view}
 use Rattle.model.specs.Stations.{result, refusedFor, nobody, newStation, setup, renameWith, rename}
 use Rattle.events.specs.Log.{logged}
@@ -89,6 +91,26 @@ module _ (log : List Entry) (l : List Address) (g : Station) where
   pub rename-some : (i : List ℕ) → badList l ≡ false → g .identity ≡ some i → result (newStation i log l) accepted [] ≡ rename log l g
   unfolding rename renameWith if_then_else_
   rename-some i e f = rw (e, f)
+
+  module _ (n : ℕ) (o : List ℕ) (is : g .identity ≡ viewIdentity n o) where
+    pub rename-refused : (renameCause n l ≡ 0 → ⊥) → result g (refusedFor (renameCause n l)) [] ≡ rename log l g
+    unfolding renameCause if_then_else_
+    rename-refused h = go (badList l) refl (eqb n 0) refl
+      where
+        go : (b : Bool) → badList l ≡ b → (z : Bool) → eqb n 0 ≡ z → result g (refusedFor (renameCause n l)) [] ≡ rename log l g
+        go true e z f = rw e (rename-bad e)
+        go false e true f = rw (e, f) (rename-none e (is ∙ view-none n o (eqb-true n 0 f)))
+        go false e false f = absurd (h (rw (e, f)))
+
+-- a list that a station with an identity takes
+pub rename-takes : (n : ℕ) (l : List Address) → renameCause n l ≡ 0 → (badList l ≡ false) × (n ≡ 0 → ⊥)
+unfolding renameCause if_then_else_
+rename-takes n l = go (badList l) refl (eqb n 0) refl
+  where
+    go : (b : Bool) → badList l ≡ b → (z : Bool) → eqb n 0 ≡ z → (if b then requesterList else if z then identity else 0) ≡ 0 → (badList l ≡ false) × (n ≡ 0 → ⊥)
+    go true e z f h = absurd (omega arith)
+    go false e true f h = absurd (omega arith)
+    go false e false f h = (e, eqb-false n 0 f)
 
 module _ (i : List ℕ) (l : List Address) where
   pub setup-bad-list : badList l ≡ true → result nobody (refusedFor requesterList) [] ≡ setup i l

@@ -1,7 +1,7 @@
 -- `station::Station::take_frame` meets its contract.
 -- Assumes nothing.
 use mathlib.Core.Path.{_≡_, sym, ap, _∙_}
-use mathlib.Core.List.{List, [], map}
+use mathlib.Core.List.{[], map}
 use lib.Dec.{ltb}
 use lib.ListN.{length, take}
 use Rattle.laws.proofs.Arrays.{length-mapped}
