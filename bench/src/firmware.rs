@@ -86,6 +86,8 @@ const _: () = assert!(size_of::<Outcome>() == 4624 && size_of::<Transition>() ==
 const _: () = assert!(size_of::<ReportFrame>() == 24 && size_of::<Step>() == 96);
 const _: () = assert!(offset_of!(Step, element) == 32 && offset_of!(Element, event) == 26);
 
+// C returns an outcome through a pointer that goes before the parameters and comes back (x86-64, System
+// V): named here, so that the outcome is written where the caller keeps it and no copy is added.
 extern "C" {
     pub fn dultxibe_setup(
         outcome: *mut Outcome,
@@ -118,6 +120,20 @@ extern "C" {
         kind: u8,
         buffer: *mut u8,
         length: usize,
+    ) -> *mut Outcome;
+    pub fn dultxibe_roam(
+        outcome: *mut Outcome,
+        station: Station,
+        reading: u32,
+        consoles: *const [u8; 6],
+        count: usize,
+    ) -> *mut Outcome;
+    pub fn dultxibe_change_network(
+        outcome: *mut Outcome,
+        station: Station,
+        reading: u32,
+        consoles: *const [u8; 6],
+        count: usize,
     ) -> *mut Outcome;
     pub fn dultxibe_read_report(destination: *const [u8; 6], frame: *const u8, length: usize) -> ReportFrame;
     pub fn dultxibe_next_element(kind: u8, position: usize, frame: *const u8, length: usize) -> Step;

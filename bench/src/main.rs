@@ -38,6 +38,8 @@ trait Side: Copy {
     fn log(&mut self, reading: u32, t: &twin::Transition) -> Answer;
     fn frame(&mut self, reading: u32, octets: &[u8]) -> Answer;
     fn report(&mut self, reading: u32, kind: u8, buffer: &mut [u8]) -> Answer;
+    fn roam(&mut self, reading: u32, list: &[[u8; 6]]) -> Answer;
+    fn change_network(&mut self, reading: u32, list: &[[u8; 6]]) -> Answer;
     /// Judges a report frame, then reads its elements: the count, and a sum over their fields.
     fn read(octets: &[u8]) -> (usize, u64);
 }
@@ -84,6 +86,18 @@ impl Side for firmware::Outcome {
     fn report(&mut self, reading: u32, kind: u8, buffer: &mut [u8]) -> Answer {
         let (start, length) = (buffer.as_mut_ptr(), buffer.len());
         unsafe { firmware::dultxibe_report(self, self.station, reading, &CONSOLES[1], kind, start, length) };
+        self.reply
+    }
+
+    #[inline(never)]
+    fn roam(&mut self, reading: u32, list: &[[u8; 6]]) -> Answer {
+        unsafe { firmware::dultxibe_roam(self, self.station, reading, list.as_ptr(), list.len()) };
+        self.reply
+    }
+
+    #[inline(never)]
+    fn change_network(&mut self, reading: u32, list: &[[u8; 6]]) -> Answer {
+        unsafe { firmware::dultxibe_change_network(self, self.station, reading, list.as_ptr(), list.len()) };
         self.reply
     }
 
@@ -153,6 +167,16 @@ impl Side for twin::Station {
     }
 
     #[inline(never)]
+    fn roam(&mut self, reading: u32, list: &[[u8; 6]]) -> Answer {
+        answer(twin::Station::roam(self, reading, list))
+    }
+
+    #[inline(never)]
+    fn change_network(&mut self, reading: u32, list: &[[u8; 6]]) -> Answer {
+        answer(twin::Station::change_network(self, reading, list))
+    }
+
+    #[inline(never)]
     fn read(octets: &[u8]) -> (usize, u64) {
         let report = match twin::read_report(&GATE, octets) {
             Ok(report) => report,
@@ -205,6 +229,8 @@ enum Call {
     Log,
     Frame(Vec<u8>),
     Report(u8),
+    Roam,
+    ChangeNetwork,
     Read,
 }
 
@@ -239,6 +265,8 @@ fn cases() -> Vec<Case> {
         ),
         case("report, two diagnostics", true, vec![diagnostics()], Call::Report(1)),
         case("report, nothing", true, vec![], Call::Report(0)),
+        case("move", true, vec![all()], Call::Roam),
+        case("network change", true, vec![all()], Call::ChangeNetwork),
         case("read a report of 64 events", true, vec![all()], Call::Read),
     ]
 }
@@ -265,7 +293,7 @@ fn prepare<S: Side>(case: &Case) -> (S, Vec<u8>) {
 struct Given {
     answers: [Answer; STATIONS],
     reads: [(usize, u64); STATIONS],
-    buffer: Vec<u8>,
+    buffers: Vec<Vec<u8>>,
 }
 
 struct Runner<S: Side> {
@@ -280,7 +308,7 @@ impl<S: Side> Runner<S> {
     fn new(case: &Case) -> Runner<S> {
         let (station, frame) = prepare::<S>(case);
         let none = Answer { code: 9, number: 0, place: 0, length: 0 };
-        let given = Given { answers: [none; STATIONS], reads: [(0, 0); STATIONS], buffer: vec![0xAA; 2304] };
+        let given = Given { answers: [none; STATIONS], reads: [(0, 0); STATIONS], buffers: vec![vec![0xAA; 2304]; STATIONS] };
         Runner { station, frame, places: vec![station; PLACES], first: 0, given }
     }
 
@@ -302,7 +330,9 @@ impl<S: Side> Runner<S> {
                 Call::Tick => given.answers[i] = station.tick(black_box(70_000)),
                 Call::Log => given.answers[i] = station.log(black_box(70_000), &transition(70)),
                 Call::Frame(octets) => given.answers[i] = station.frame(black_box(70_000), octets),
-                Call::Report(kind) => given.answers[i] = station.report(black_box(70_000), *kind, &mut given.buffer),
+                Call::Report(kind) => given.answers[i] = station.report(black_box(70_000), *kind, &mut given.buffers[i]),
+                Call::Roam => given.answers[i] = station.roam(black_box(70_000), black_box(&CONSOLES)),
+                Call::ChangeNetwork => given.answers[i] = station.change_network(black_box(70_000), black_box(&CONSOLES)),
                 Call::Read => given.reads[i] = S::read(black_box(&self.frame)),
             }
         }
