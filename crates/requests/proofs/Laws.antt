@@ -4,6 +4,7 @@ use Prim.Native.Nat.{ℕ, _+_, _-_, _≤_, _<_}
 use mathlib.Core.Path.{_≡_, refl, ap, _∙_}
 use mathlib.Core.Bool.{Bool, true, false}
 use mathlib.Core.List.{List}
+use lib.Dec.{eqb}
 use lib.ListN.{length, getD, set, take, drop, length-set, drop-of-length-le}
 use borrow.Author.Tests.{eq-eqb, ne-eqb, eqb-true, eqb-false, le-leb, lt-leb, lt-ltb, le-ltb}
 use native.Mathlib.Omega.{arith}
@@ -19,10 +20,11 @@ use Rattle.octets.specs.Elements.{pieceEnd}
 use Rattle.octets.proofs.ElementLaws.{Ends, piece-ends}
 use Rattle.subelements.specs.declared.Condition.{Condition}
 use Rattle.subelements.specs.declared.Subelements.{Subelements}
-use Rattle.subelements.specs.Subelements.{walked, refusedWalk, past, wholeStep, step, walk}
+use Rattle.subelements.specs.Subelements.{walked, refusedWalk, past, wholeStep, step, knownOf, walk}
+use Rattle.subelements.proofs.Laws.{walk-at-end}
 use Rattle.requests.specs.declared.Element.{Element}
 use Rattle.requests.specs.declared.Elements.{Elements}
-use Rattle.requests.specs.Elements.{pastElements, leastBody, subelementsOf, elementOf, hasToken, badToken, started, refusedElements, withElement, ownStep, elementStep, more, walkElements}
+use Rattle.requests.specs.Elements.{pastElements, leastBody, subelementsOf, subelementsStart, elementOf, hasToken, badToken, started, refusedElements, withElement, ownStep, elementStep, more, walkElements}
 
 -- ---- the number of subelements: an element of at most 255 octets has fewer than 256
 
@@ -55,6 +57,16 @@ module _ (s : List ℕ) (known from end : ℕ) where
   unfolding walk
   walk-few =
       keeps-while Few _ _ (λ w m p. step-few w (eqb-true _ 0 (and-first _ _ m)) p) end (walked noRefusal from) (record { few = omega arith; behind = λ _. omega arith }) .few
+
+-- the walk from where they start
+pub subelements-from : (s : List ℕ) (kind : Kind) (at end : ℕ) → walk s (knownOf kind) (subelementsStart s kind at end) end ≡ subelementsOf s kind at end
+unfolding subelementsOf subelementsStart if_then_else_
+subelements-from s Event at end = go (eqb (getD s (at + 3) 0) 0)
+  where
+    go : (b : Bool) → walk s 5 (if b then at + 5 else end) end ≡ (if b then walk s 5 (at + 5) end else walked noRefusal end)
+    go true = refl
+    go false = walk-at-end s 5 end
+subelements-from s Diagnostic at end = refl
 
 pub subelements-few : (s : List ℕ) (kind : Kind) (at end : ℕ) → end ≤ at + 257 → subelementsOf s kind at end .count < 256
 unfolding subelementsOf

@@ -10,14 +10,11 @@ use octets::piece_end;
 use octets::size;
 use subelements::Condition;
 use subelements::Subelements;
-use subelements::walk_conditions;
-use subelements::walk_edges;
+use subelements::walk_request;
 ghost use mathlib.Core.Path.{_≡_};
 ghost use Prim.Native.Nat.{_+_, _≤_, _<_};
 ghost use lib.ListN.{length, take};
-ghost use Rattle.octets.specs.Refusals.{noRefusal};
-ghost use Rattle.subelements.specs.Subelements.{walked};
-ghost use Rattle.requests.specs.Elements.{leastBody, limitAt, timeoutAt, subelementsOf, elementOf, hasToken, zeroToken, badToken, started, refusedElements, walkElements};
+ghost use Rattle.requests.specs.Elements.{leastBody, limitAt, timeoutAt, subelementsStart, subelementsOf, elementOf, hasToken, zeroToken, badToken, started, refusedElements, walkElements};
 ghost use Rattle.requests.specs.Requests.{refusedRequest, lacksElement, requestOf, readKind, readRequest};
 
 // The most elements that a request has.
@@ -86,40 +83,34 @@ fn timeout_at(s: &[u8], kind: Kind, at: usize) -> u16
     }
 }
 
-// The subelements of a body that is not read past the limit.
-fn unread(end: usize) -> Subelements
-    ensures { λ r. ⌜ r ≡ walked noRefusal end ⌝ }
-{
-    Subelements {
-        refusal: Refusal::none(),
-        at: end,
-        count: 0,
-        filter: [Condition {
-            present: false,
-            octets: [0; 6],
-        }; 5],
-    }
-}
-
-// The subelements of an event, whose element stands from at to end.
-fn event_subelements(s: &[u8], at: usize, end: usize) -> Subelements
+// Where the subelements of an event start: at the element's end where its type has none that are read.
+fn event_start(s: &[u8], at: usize, end: usize) -> usize
     requires { ⌜ at < 2304 ⌝ }
-    ensures { λ r. ⌜ r ≡ subelementsOf (now (s .entry)) Kind.Event at end ⌝ }
+    ensures { λ r. ⌜ r ≡ subelementsStart (now (s .entry)) Kind.Event at end ⌝ }
 {
     if octet(s, at + 3) == 0 {
-        return walk_conditions(s, at + 5, end);
+        return at + 5;
     }
-    unread(end)
+    end
 }
 
+fn subelements_start(s: &[u8], kind: Kind, at: usize, end: usize) -> usize
+    requires { ⌜ at < 2304 ⌝ }
+    ensures { λ r. ⌜ r ≡ subelementsStart (now (s .entry)) kind at end ⌝ }
+{
+    match kind {
+        Kind::Event => event_start(s, at, end),
+        Kind::Diagnostic => at + 6,
+    }
+}
+
+// The subelements of an element from at to end. One call of the walk for all: the compiler then makes
+// the filter where the element is.
 fn subelements_of(s: &[u8], kind: Kind, at: usize, end: usize) -> Subelements
     requires { ⌜ (at < 2304) × (end ≤ at + 257) ⌝ }
     ensures { λ r. ⌜ (r ≡ subelementsOf (now (s .entry)) kind at end) × (r .count < 256) ⌝ }
 {
-    match kind {
-        Kind::Event => event_subelements(s, at, end),
-        Kind::Diagnostic => walk_edges(s, at + 6, end),
-    }
+    walk_request(s, kind, subelements_start(s, kind, at, end), end)
 }
 
 fn element_of(s: &[u8], kind: Kind, at: usize, subs: Subelements) -> Element

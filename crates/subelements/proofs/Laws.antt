@@ -1,7 +1,7 @@
 -- Laws of the walk over subelements: a turn of its loop, by the tests that lead through it.
 -- Assumes nothing.
 use Prim.Native.Nat.{ℕ, _+_, _-_, _≤_, _<_}
-use mathlib.Core.Path.{_≡_, refl, ap, _∙_}
+use mathlib.Core.Path.{_≡_, refl, sym, ap, _∙_}
 use mathlib.Core.Bool.{true, false}
 use mathlib.Core.List.{List}
 use lib.ListN.{length, getD, set, length-set}
@@ -78,3 +78,7 @@ module _ {s : List ℕ} {known from end : ℕ} {w : Subelements} (i : Walking s 
             unfolding step wholeStep if_then_else_
             held b q =
                 rw q (goes (set (w .filter) id _) (length-set (w .filter) id _ ∙ i .five) (rw (← e, ne-eqb next 0 z, ← d, lt-leb known id k, ← m, eq-eqb n (lengthOf id) l, b)))
+
+-- from its end on there is nothing
+pub walk-at-end : (s : List ℕ) (known end : ℕ) → walk s known end end ≡ walked noRefusal end
+walk-at-end s known end = sym (walking-end (walking-start s known end end) (omega arith))

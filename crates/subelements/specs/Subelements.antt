@@ -7,6 +7,8 @@ use lib.ListN.{getD, set}
 use lib.Dec.{ltb, leb, eqb}
 use Rattle.laws.specs.Choice.{if_then_else_}
 use Rattle.laws.specs.Walk.{repeatWhile}
+use Rattle.octets.specs.declared.numbers.Kind.{Kind}
+use Rattle.octets.specs.declared.numbers.Kind.the-variants.{Event, Diagnostic}
 use Rattle.octets.specs.declared.refusals.Refusal.{Refusal}
 use Rattle.octets.specs.Refusals.{refused, noRefusal, subelement, repeatedSubelement}
 use Rattle.octets.specs.Elements.{pieceEnd}
@@ -69,7 +71,11 @@ step s known end w =
 abbrev pub more : ℕ → Subelements → Bool
 more end w = eqb (w .refusal .number) 0 && ltb (w .at) end
 
--- all from a position to the end, from the front; the first refusal stops. Known is 5 for event type 0; a diagnostic's are "walked for
--- their edges only": 0
+-- how many IDs of the table are known: 5 for event type 0; a diagnostic's subelements are "walked for their edges only": 0
+abbrev pub knownOf : Kind → ℕ
+knownOf Event = 5
+knownOf Diagnostic = 0
+
+-- all from a position to the end, from the front; the first refusal stops
 unfoldable pub walk : List ℕ → ℕ → ℕ → ℕ → Subelements
 walk s known from end = repeatWhile end (more end) (step s known end) (walked noRefusal from)

@@ -1,5 +1,6 @@
 // The subelements of one element (document 01, "Frames and elements", and causes 7 and 8 of its
 // table): the table of lengths, and the one walker that reads it.
+use octets::Kind;
 use octets::Refusal;
 use octets::causes;
 use octets::octet;
@@ -7,7 +8,7 @@ use octets::piece_end;
 use octets::size;
 ghost use mathlib.Core.Path.{_≡_};
 ghost use Prim.Native.Nat.{_+_, _≤_, _<_, _^_};
-ghost use Rattle.subelements.specs.Subelements.{lengthOf, bodyOctet, bodyAt, walked, refusedWalk, walk as Subelements·walk};
+ghost use Rattle.subelements.specs.Subelements.{lengthOf, bodyOctet, bodyAt, walked, refusedWalk, walk as Subelements·walk, knownOf};
 
 // The subelement of one ID of the table: absent (its octets 0), or present with its body (0 past
 // its length). In a request element of event type 0 it is a condition.
@@ -113,16 +114,39 @@ fn walk(s: &[u8], known: usize, from: usize, end: usize) -> Subelements
     w
 }
 
-// The subelements of an event type 0 request, from a position to the element's end.
-pub fn walk_conditions(s: &[u8], from: usize, end: usize) -> Subelements
-    ensures { λ r. ⌜ r ≡ Subelements·walk (now (s .entry)) 5 from end ⌝ }
+// How many IDs of the table a kind of request is held to.
+fn known_of(kind: Kind) -> usize
+    ensures { λ r. ⌜ (r ≡ knownOf kind) × (r ≤ 5) ⌝ }
 {
-    walk(s, 5, from, end)
+    match kind {
+        Kind::Event => 5,
+        Kind::Diagnostic => 0,
+    }
 }
 
-// The subelements of a diagnostic, which are walked for their edges only.
+// The subelements of a request element, from a position to its end: the conditions of an event, or a
+// diagnostic's, which are walked for their edges only.
+pub fn walk_request(s: &[u8], kind: Kind, from: usize, end: usize) -> Subelements
+    ensures { λ r. ⌜ r ≡ Subelements·walk (now (s .entry)) (knownOf kind) from end ⌝ }
+{
+    walk(s, known_of(kind), from, end)
+}
+
+// The subelements of a diagnostic report, which are walked for their edges only: no table, no filter.
 pub fn walk_edges(s: &[u8], from: usize, end: usize) -> Subelements
     ensures { λ r. ⌜ r ≡ Subelements·walk (now (s .entry)) 0 from end ⌝ }
 {
-    walk(s, 0, from, end)
+    let mut at = from;
+    let mut count: usize = 0;
+    while at < end {
+        let behind = piece_end(s, at, end);
+        if behind == 0 {
+            return refused(causes::SUBELEMENT, at);
+        }
+        count += 1;
+        at = behind;
+    }
+    let mut w = walk_of(Refusal::none(), at);
+    w.count = count;
+    w
 }

@@ -7,7 +7,7 @@ use octets::piece_end;
 use octets::size;
 use requests::Element;
 use subelements::Condition;
-use subelements::walk_conditions;
+use subelements::walk_request;
 ghost use mathlib.Core.Path.{_≡_};
 ghost use lib.ListN.{set};
 ghost use Rattle.traces.specs.Elements.{kindOf, noElement, refusedElement, conditionEnd, conditionsEnd, badValue, limitOf, timeoutOf, elementAt, withElement, elementsAt};
@@ -139,7 +139,7 @@ fn element_at(s: &[u8], kind: Kind, at: usize) -> Recorded
     if end == 0 {
         return refused();
     }
-    let w = walk_conditions(s, from, end);
+    let w = walk_request(s, Kind::Event, from, end);
     if w.refusal.number != 0 {
         return refused();
     }

@@ -60,8 +60,8 @@ unfolding elementAt walkedElement if_then_else_
 returns-4 c =
     rw (← c .before .before .before .before .before .before .before .before .behind .ensures, ne-eqb _ 0 (c .before .before .before .before .before .before .before .if2 .left), ← c .before .before .before .before .before .before .pair-at .ensures, ← c .before .before .before .before .before .bad-value .ensures, c .before .before .before .before .if3 .left, ← c .before .before .before .octet .ensures, ← c .before .before .conditions-end .ensures, eq-eqb _ 0 (c .before .if4 .taken)) (c .refused4 .ensures)
 
-walk-conditions-requires : tie.Need-walk-conditions-requires
-walk-conditions-requires c κs = search needs
+walk-request-requires : tie.Need-walk-request-requires
+walk-request-requires c κs = search needs
 
 refused-requires-5 : tie.Need-refused-requires-5
 refused-requires-5 c κs = search needs
@@ -69,7 +69,7 @@ refused-requires-5 c κs = search needs
 returns-5 : tie.Need-returns-5
 unfolding elementAt walkedElement if_then_else_
 returns-5 c =
-    rw (← c .before .before .before .before .before .before .before .before .before .before .before .behind .ensures, ne-eqb _ 0 (c .before .before .before .before .before .before .before .before .before .before .if2 .left), ← c .before .before .before .before .before .before .before .before .before .pair-at .ensures, ← c .before .before .before .before .before .before .before .before .bad-value .ensures, c .before .before .before .before .before .before .before .if3 .left, ← c .before .before .before .before .before .before .octet .ensures, ← c .before .before .before .before .before .conditions-end .ensures, ne-eqb _ 0 (c .before .before .before .before .if4 .left), ← c .before .before .before .walk-conditions .ensures, ne-eqb _ 0 (c .before .if5 .taken)) (c .refused5 .ensures)
+    rw (← c .before .before .before .before .before .before .before .before .before .before .before .behind .ensures, ne-eqb _ 0 (c .before .before .before .before .before .before .before .before .before .before .if2 .left), ← c .before .before .before .before .before .before .before .before .before .pair-at .ensures, ← c .before .before .before .before .before .before .before .before .bad-value .ensures, c .before .before .before .before .before .before .before .if3 .left, ← c .before .before .before .before .before .before .octet .ensures, ← c .before .before .before .before .before .conditions-end .ensures, ne-eqb _ 0 (c .before .before .before .before .if4 .left), ← c .before .before .before .walk-request .ensures, ne-eqb _ 0 (c .before .if5 .taken)) (c .refused5 .ensures)
 
 octet-requires-2 : tie.Need-octet-requires-2
 octet-requires-2 c κs = search needs
@@ -89,7 +89,7 @@ timeout-of-requires c κs = search needs
 returns-6 : tie.Need-returns-6
 unfolding elementAt walkedElement if_then_else_
 returns-6 c =
-    rw (← c .before .before .before .before .before .before .before .before .before .before .before .before .before .before .before .behind .ensures, ne-eqb _ 0 (c .before .before .before .before .before .before .before .before .before .before .before .before .before .before .if2 .left), ← c .before .before .before .before .before .before .before .before .before .before .before .before .before .pair-at .ensures, ← c .before .before .before .before .before .before .before .before .before .before .before .before .bad-value .ensures, c .before .before .before .before .before .before .before .before .before .before .before .if3 .left, ← c .before .before .before .before .before .before .before .before .before .before .octet .ensures, ← c .before .before .before .before .before .before .before .before .before .conditions-end .ensures, ne-eqb _ 0 (c .before .before .before .before .before .before .before .before .if4 .left), ← c .before .before .before .before .before .before .before .walk-conditions .ensures, eq-eqb _ 0 (c .before .before .before .before .before .if5 .left), ← c .before .before .before .octet2 .ensures, ← c .before .before .octet3 .ensures, ← c .before .limit-of .ensures, ← c .timeout-of .ensures)
+    rw (← c .before .before .before .before .before .before .before .before .before .before .before .before .before .before .before .behind .ensures, ne-eqb _ 0 (c .before .before .before .before .before .before .before .before .before .before .before .before .before .before .if2 .left), ← c .before .before .before .before .before .before .before .before .before .before .before .before .before .pair-at .ensures, ← c .before .before .before .before .before .before .before .before .before .before .before .before .bad-value .ensures, c .before .before .before .before .before .before .before .before .before .before .before .if3 .left, ← c .before .before .before .before .before .before .before .before .before .before .octet .ensures, ← c .before .before .before .before .before .before .before .before .before .conditions-end .ensures, ne-eqb _ 0 (c .before .before .before .before .before .before .before .before .if4 .left), ← c .before .before .before .before .before .before .before .walk-request .ensures, eq-eqb _ 0 (c .before .before .before .before .before .if5 .left), ← c .before .before .before .octet2 .ensures, ← c .before .before .octet3 .ensures, ← c .before .limit-of .ensures, ← c .timeout-of .ensures)
 
 pub element-at-spec : {M : Type 1} → statement M
 element-at-spec =
@@ -110,7 +110,7 @@ element-at-spec =
     conditions-end-requires
     refused-requires-4
     returns-4
-    walk-conditions-requires
+    walk-request-requires
     refused-requires-5
     returns-5
     octet-requires-2
