@@ -1,12 +1,13 @@
 -- Laws of a test of a list that is true where a test of one of its elements is. Loops look at the elements in order.
 -- Assumes nothing.
-use Prim.Native.Nat.{ℕ, _+_, _≤_, _<_}
-use mathlib.Core.Path.{_≡_}
+use Prim.Native.Nat.{ℕ, zero, suc, _+_, _≤_, _<_}
+use mathlib.Core.Path.{_≡_, refl, sym, _∙_}
 use mathlib.Core.Bool.{Bool, true, false, _||_}
 use mathlib.Core.List.{List, [], _∷_}
 use lib.ListN.{length, getD, drop, drop-of-length-le}
 use lib.Seq.{drop-cons}
 use native.Mathlib.Numerals.{add-one}
+use native.Mathlib.Omega.{arith}
 
 -- `some-of` tests a list by `one`, which may look at the elements behind the one that it tests
 module _ {A : Type 0} (some-of : List A → Bool) (one : A → List A → Bool) (nil : some-of [] ≡ false)
@@ -20,3 +21,15 @@ module _ {A : Type 0} (some-of : List A → Bool) (one : A → List A → Bool) 
 
   pub some-none : length l ≤ i → false ≡ some-of (drop i l)
   some-none h = rw (drop-of-length-le l {i = i} h, nil)
+
+-- where a list has none, no place of it has, nor what stands past its end
+module _ {A : Type 0} (some-of : List A → Bool) (one : A → Bool) (cons : (x : A) (xs : List A) → some-of (x ∷ xs) ≡ (one x || some-of xs)) (d : A)
+    (past : one d ≡ false) where
+  pub none-at : (l : List A) → some-of l ≡ false → (i : ℕ) → one (getD l i d) ≡ false
+  none-at [] = λ e i. past
+  none-at (x ∷ l) = λ e. go (one x) refl (none-at l) (sym (cons x l) ∙ e)
+    where
+      go : (b : Bool) → one x ≡ b → (some-of l ≡ false → (i : ℕ) → one (getD l i d) ≡ false) → (b || some-of l) ≡ false → (i : ℕ) → one (getD (x ∷ l) i d) ≡ false
+      go true p later e i = absurd (let z : _≡_ {A = ℕ} 0 1 = cc in omega arith)
+      go false p later e zero = p
+      go false p later e (suc i) = later e i
