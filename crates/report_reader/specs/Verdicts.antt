@@ -38,6 +38,7 @@ pub record Fits (s : List ℕ) (at : ℕ) (v : Verdict) : Type 0 where
   pub within : v .next ≤ length s
   pub event : v .logged ≡ true → at + 35 ≤ length s
 
+-- an element with its fields; or the refusal alone; or, of another ID, the next position alone
 unfoldable pub stepOf : List ℕ → ℕ → Verdict → Step
 stepOf s at v =
     if v .found then foundStep (elementAt s at v) (at + 5) (v .next)

@@ -22,8 +22,8 @@ pub struct Answered {
     pub first: usize,
 }
 
-// Is an element answered with the identity? A test rather than a match in its place, since a match of
-// four arms that the compiler cannot rule out costs the caller a copy of the log.
+// Is an element answered with the identity? A test, since a match of four arms where it is used costs
+// the caller a copy of the log (docs/DECISIONS.md).
 fn is_identity(t: Treatment) -> bool
     ensures { λ r. ⌜ r ≡ isIdentity t ⌝ }
 {

@@ -96,8 +96,9 @@ fn serve_frame(
 }
 
 impl Station {
-    // A frame from a source to a destination. One way out for all answers: each more costs a copy of
-    // the station.
+    // A frame from a source to a destination. A source that finds no requester has the place behind
+    // the last; whichever is then at hand is put back as it is, so that there is one way out for all
+    // answers: a second would cost a copy of the log.
     pub fn take_frame(
         self,
         reading: Milliseconds,
