@@ -14,7 +14,7 @@ use Rattle.octets.specs.Elements.{pieceEnd}
 use Rattle.subelements.specs.declared.Condition.{Condition}
 use Rattle.subelements.specs.Subelements.{absent, wholeStep, step as Subelements·step, walk}
 use Rattle.requests.specs.Elements.{subelementsOf, hasToken, badToken, withElement, ownStep, elementStep, walkElements}
-use Rattle.requests.specs.Requests.{requestOf, readKind, readRequest}
+use Rattle.requests.specs.Requests.{requestOf, kindOf, headerCause, readRequest}
 use Rattle.events.specs.declared.Entry.{Entry}
 use Rattle.events.specs.Log.{bodyOf, entryOf}
 use Rattle.events.specs.Conditions.{asked, transitionMeets, meetsAt, meets}
@@ -91,5 +91,5 @@ all [] = true
 all (c ∷ cs) = holds c && all cs
 
 starred : all cases ≡ true
-unfolding all holds cases outstanding slow least equal if_then_else_ repeatWhile pieceEnd wholeStep Subelements·step walk subelementsOf hasToken badToken withElement ownStep elementStep walkElements requestOf readKind readRequest bodyOf entryOf asked transitionMeets meetsAt meets isLate onTime unlessOver dropLate same addressAt
+unfolding all holds cases outstanding slow least equal if_then_else_ repeatWhile pieceEnd wholeStep Subelements·step walk subelementsOf hasToken badToken withElement ownStep elementStep walkElements requestOf kindOf headerCause readRequest bodyOf entryOf asked transitionMeets meetsAt meets isLate onTime unlessOver dropLate same addressAt
 starred = refl

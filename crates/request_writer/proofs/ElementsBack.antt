@@ -27,8 +27,7 @@ use Rattle.octets.proofs.ElementLaws.{piece-stands}
 use Rattle.octets.proofs.FieldLaws.{pair-halves}
 use Rattle.subelements.specs.Subelements.{noFilter, walked, walk}
 use Rattle.requests.specs.declared.Element.{Element}
-use Rattle.requests.specs.declared.Elements.{Elements}
-use Rattle.requests.specs.Elements.{leastBody, limitAt, timeoutAt, subelementsOf, blankElements, pastElements, hasToken, badToken, withElement, ownStep, elementStep, more}
+use Rattle.requests.specs.Elements.{Elements, leastBody, limitAt, timeoutAt, subelementsOf, blankElements, pastElements, hasToken, badToken, withElement, ownStep, elementStep, more}
 use Rattle.requests.proofs.Found.{All, also}
 use Rattle.request_writer.specs.Frames.{filterOctets, elementBody, elementOctets}
 use Rattle.request_writer.specs.Writer.{tokenRefusal}

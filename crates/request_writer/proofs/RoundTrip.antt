@@ -21,7 +21,7 @@ use Rattle.octets.specs.Numbers.{requestAction}
 use Rattle.requests.specs.declared.Element.{Element}
 use Rattle.requests.specs.declared.Request.{Request}
 use Rattle.requests.specs.Elements.{walkElements}
-use Rattle.requests.specs.Requests.{refusedRequest, lacksElement, requestOf, readKind, readRequest}
+use Rattle.requests.specs.Requests.{refusedRequest, lacksElement, requestOf, kindOf, headerCause, readRequest}
 use Rattle.requests.proofs.Found.{All}
 use Rattle.request_writer.specs.declared.Written.{Written}
 use Rattle.request_writer.specs.Frames.{frameOctets}
@@ -109,18 +109,22 @@ module _ (kind : Kind) (dialog : ℕ) (es : List Element) (count : ℕ) (s : Lis
   unfolding writeOctets if_then_else_
   frame-written = rw (frame-length, eq-eqb _ 0 ok) (take-append-seam frame (drop (length frame) s))
 
-  kind-read : readKind frame kind ≡ readBack kind dialog es count
-  unfolding readKind requestOf frameOctets readBack if_then_else_
-  kind-read = rw (a .dialog-token, walk-back, a .some)
+  frame-kind : kindOf frame ≡ kind
+  unfolding kindOf frameOctets if_then_else_
+  frame-kind = by kind
+    where
+      by : (k : Kind) → (if eqb (requestAction k) 2 then Diagnostic else Event) ≡ k
+      by Event = refl
+      by Diagnostic = refl
+
+  frame-header : headerCause frame kind ≡ 0
+  unfolding headerCause frameOctets if_then_else_
+  frame-header =
+      rw (le-ltb (length frame) 3 (omega arith), le-ltb 2304 (length frame) (omega (arith, frame-fits)), eq-eqb (requestAction kind) (requestAction kind) refl, a .dialog-token)
 
   frame-read : readRequest frame ≡ readBack kind dialog es count
-  unfolding readRequest frameOctets if_then_else_
-  frame-read = rw (le-ltb (length frame) 3 (omega arith), le-ltb 2304 (length frame) (omega (arith, frame-fits))) (by kind kind-read)
-    where
-      by : (k : Kind) → readKind frame k ≡ readBack kind dialog es count
-          → (if eqb (requestAction k) 0 then readKind frame Event else if eqb (requestAction k) 2 then readKind frame Diagnostic else refusedRequest frameHeader 0) ≡ readBack kind dialog es count
-      by Event e = e
-      by Diagnostic e = e
+  unfolding readRequest requestOf frameOctets readBack if_then_else_
+  frame-read = rw (frame-kind, frame-header, walk-back, a .some)
 
   pub round-trip : readRequest (take (writeAnswer kind dialog es count (length s) .length) (writeOctets kind dialog es count s)) ≡ readBack kind dialog es count
   round-trip = rw frame-written frame-read
@@ -156,7 +160,7 @@ module _ (kind : Kind) (dialog : ℕ) (es : List Element) (count : ℕ) (shapes 
 
   pub echo-read : (s y : List ℕ) (w : Written) (r : Request) → length s ≡ 267 → outcome w y ≡ writeRequest kind dialog es count s → r ≡ readRequest (take (w .length) y)
       → r ≡ echoed kind dialog es count
-  unfolding echoed readRequest if_then_else_
+  unfolding echoed kindOf headerCause readRequest if_then_else_
   echo-read s y w r long wrote read = rw (← long) (go (eqb (writeAnswer kind dialog es count (length s) .refusal .number) 0) refl)
     where
       len : w .length ≡ writeAnswer kind dialog es count (length s) .length

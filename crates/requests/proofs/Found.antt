@@ -19,10 +19,9 @@ use Rattle.subelements.specs.declared.Condition.{Condition}
 use Rattle.subelements.specs.declared.Subelements.{Subelements}
 use Rattle.subelements.specs.Subelements.{bodyOctet, bodyAt, absent, noFilter, walked, wholeStep, step, walk}
 use Rattle.requests.specs.declared.Element.{Element}
-use Rattle.requests.specs.declared.Elements.{Elements}
 use Rattle.requests.specs.declared.Request.{Request}
-use Rattle.requests.specs.Elements.{blankElement, blankElements, pastElements, limitAt, timeoutAt, subelementsOf, hasToken, badToken, zeroToken, started, withElement, ownStep, elementStep, walkElements}
-use Rattle.requests.specs.Requests.{requestOf, readKind, readRequest}
+use Rattle.requests.specs.Elements.{blankElement, blankElements, pastElements, limitAt, timeoutAt, subelementsOf, hasToken, badToken, zeroToken, Elements, started, withElement, ownStep, elementStep, walkElements}
+use Rattle.requests.specs.Requests.{requestOf, kindOf, readRequest}
 use Rattle.requests.proofs.Laws.{subelements-few}
 
 -- ---- general: what each element of a list has
@@ -57,18 +56,9 @@ module _ (P : ℕ → List Element → Type 0) (s : List ℕ) (blank : P 0 blank
   unfolding requestOf
   of-request kind dialog w p = either OfRequest _ _ _ (λ _. blank) (λ _. either OfRequest _ _ _ (λ _. blank) (λ _. p))
 
-  of-kind : (kind : Kind) → OfRequest (readKind s kind)
-  unfolding readKind
-  of-kind kind = either OfRequest _ _ _ (λ _. blank) (λ _. of-request kind _ _ (of-walk kind))
-
   of-read : OfRequest (readRequest s)
   unfolding readRequest
-  of-read =
-      either OfRequest _ _ _ (λ _. blank)
-      (λ _. either OfRequest _ _ _ (λ _. blank)
-      (λ _. either OfRequest _ _ _ (λ _. blank)
-      (λ _. either OfRequest _ _ _ (λ _. of-kind Event)
-      (λ _. either OfRequest _ _ _ (λ _. of-kind Diagnostic) (λ _. blank)))))
+  of-read = either OfRequest _ _ _ (λ _. blank) (λ _. of-request (kindOf s) _ _ (of-walk (kindOf s)))
 
 -- ---- the elements
 
@@ -243,19 +233,10 @@ module _ (s : List ℕ) (octets : (i : ℕ) → getD s i 0 < 256) where
   abbrev Dialog : Request → Type 0
   Dialog r = r .dialog < 256
 
-  kind-dialog : (kind : Kind) → Dialog (readKind s kind)
-  unfolding readKind requestOf
-  kind-dialog kind =
-      either Dialog _ _ _ (λ _. omega arith)
-      (λ _. either Dialog _ _ _ (λ _. omega arith)
-      (λ _. either Dialog _ _ _ (λ _. omega arith) (λ _. octets 2)))
-
   -- and so is the dialog token
   pub dialog-ranged : readRequest s .dialog < 256
-  unfolding readRequest
+  unfolding readRequest requestOf
   dialog-ranged =
       either Dialog _ _ _ (λ _. omega arith)
       (λ _. either Dialog _ _ _ (λ _. omega arith)
-      (λ _. either Dialog _ _ _ (λ _. omega arith)
-      (λ _. either Dialog _ _ _ (λ _. kind-dialog Event)
-      (λ _. either Dialog _ _ _ (λ _. kind-dialog Diagnostic) (λ _. omega arith)))))
+      (λ _. either Dialog _ _ _ (λ _. omega arith) (λ _. octets 2)))

@@ -6,7 +6,7 @@ use mathlib.Core.Bool.{Bool, true, false}
 use mathlib.Core.List.{List}
 use lib.Dec.{eqb}
 use lib.ListN.{length, getD, set, take, drop, length-set, drop-of-length-le}
-use borrow.Author.Tests.{eq-eqb, ne-eqb, eqb-true, eqb-false, le-leb, lt-leb, lt-ltb, le-ltb}
+use borrow.Author.Tests.{eq-eqb, ne-eqb, eqb-true, eqb-false, le-leb, lt-leb, lt-ltb, le-ltb, ltb-false}
 use native.Mathlib.Omega.{arith}
 use Rattle.laws.specs.Choice.{if_then_else_}
 use Rattle.laws.proofs.Choice.{either}
@@ -14,7 +14,7 @@ use Rattle.laws.proofs.Walk.{Rest, start, last, again, done, go-on, stop-refuse
 use Rattle.laws.proofs.Arrays.{take-next}
 use Rattle.octets.specs.declared.numbers.Kind.{Kind}
 use Rattle.octets.specs.declared.numbers.Kind.the-variants.{Event, Diagnostic}
-use Rattle.octets.specs.Refusals.{noRefusal, elementEdge, ninthElement, elementLength, elementToken}
+use Rattle.octets.specs.Refusals.{noRefusal, elementEdge, ninthElement, elementLength, elementToken, noElement}
 use Rattle.octets.specs.Numbers.{requestId}
 use Rattle.octets.specs.Elements.{pieceEnd}
 use Rattle.octets.proofs.ElementLaws.{Ends, piece-ends}
@@ -23,8 +23,9 @@ use Rattle.subelements.specs.declared.Subelements.{Subelements}
 use Rattle.subelements.specs.Subelements.{walked, refusedWalk, past, wholeStep, step, knownOf, walk}
 use Rattle.subelements.proofs.Laws.{walk-at-end}
 use Rattle.requests.specs.declared.Element.{Element}
-use Rattle.requests.specs.declared.Elements.{Elements}
-use Rattle.requests.specs.Elements.{pastElements, leastBody, subelementsOf, subelementsStart, elementOf, hasToken, badToken, started, refusedElements, withElement, ownStep, elementStep, more, walkElements}
+use Rattle.requests.specs.declared.Request.{Request}
+use Rattle.requests.specs.Elements.{pastElements, leastBody, subelementsOf, subelementsStart, elementOf, blankElements, hasToken, badToken, Elements, refusedElements, withElement, ownStep, elementStep, more, walkElements}
+use Rattle.requests.specs.Requests.{refusedRequest, lacksElement, requestOf, headerCause}
 
 -- ---- the number of subelements: an element of at most 255 octets has fewer than 256
 
@@ -90,82 +91,109 @@ module _ (es : List Element) (n token i : ℕ) where
   unfolding hasToken
   token-none h = rw (drop-of-length-le (take n es) {i = i} h)
 
+-- ---- the header
+
+pub header-length : (s : List ℕ) (kind : Kind) → headerCause s kind ≡ 0 → length s ≤ 2304
+unfolding headerCause
+header-length s kind =
+    let P : ℕ → Type 0 = λ (n : ℕ). n ≡ 0 → length s ≤ 2304 in
+    either P _ _ _ (λ _ e. absurd (omega arith)) (λ _. either P _ _ _ (λ _ e. absurd (omega arith)) (λ h _. ltb-false 2304 (length s) h))
+
 -- ---- a turn of the walk's loop, by the tests that lead through it
 
--- what holds before each turn: not refused, eight places, and what is left of the walk gives what the whole walk gives
-pub record Walking (s : List ℕ) (kind : Kind) (w : Elements) : Type 0 where
-  pub sound : w .refusal ≡ noRefusal
-  pub eight : length (w .elements) ≡ 8
-  pub rest : Rest (more s) (elementStep s kind) (walkElements s kind) (length s - w .at) w
+-- a walk that is not refused
+abbrev walks : ℕ → ℕ → List Element → Elements
+walks at count es = record { refusal = noRefusal; at = at; count = count; elements = es }
 
-pub walking-start : (s : List ℕ) (kind : Kind) → Walking s kind (started noRefusal 3)
+-- what holds before each turn: eight places, and what is left of the walk gives what the whole walk gives
+pub record Walking (s : List ℕ) (kind : Kind) (at count : ℕ) (es : List Element) : Type 0 where
+  pub eight : length es ≡ 8
+  pub rest : Rest (more s) (elementStep s kind) (walkElements s kind) (length s - at) (walks at count es)
+
+pub walking-start : (s : List ℕ) (kind : Kind) → Walking s kind 3 0 blankElements
 unfolding walkElements
-walking-start s kind = record { sound = refl; eight = refl; rest = start _ _ (length s) _ _ (omega arith) }
+walking-start s kind = record { eight = refl; rest = start _ _ (length s) _ _ (omega arith) }
 
-module _ {s : List ℕ} {kind : Kind} {w : Elements} (i : Walking s kind w) where
-  unrefused : w .refusal .number ≡ 0
-  unrefused = ap (λ r. r .number) (i .sound)
+refused-walk : (kind : Kind) (dialog n p : ℕ) → (n ≡ 0 → ⊥) → refusedRequest n p ≡ requestOf kind dialog (refusedElements n p)
+unfolding requestOf if_then_else_
+refused-walk kind dialog n p z = rw (ne-eqb n 0 z)
 
-  pub walking-end : length s ≤ w .at → w ≡ walkElements s kind
-  walking-end h = done (i .rest) (stop-end _ _ _ unrefused h)
+module _ {s : List ℕ} {kind : Kind} {at count : ℕ} {es : List Element} (i : Walking s kind at count es) (dialog : ℕ) where
+  abbrev w : Elements
+  w = walks at count es
 
-  module _ (h : w .at < length s) {end : ℕ} (e : end ≡ pieceEnd s (w .at) (length s)) where
-    refuses : {r : Elements} (n p : ℕ) → (n ≡ 0 → ⊥) → r ≡ refusedElements n p → refusedElements n p ≡ elementStep s kind w → r ≡ walkElements s kind
-    refuses n p z q f = q ∙ last (i .rest) (go-on _ _ _ unrefused h) (omega arith) f (stop-refused n 0 (length s) z)
+  abbrev Reads : Request → Type 0
+  Reads r = r ≡ requestOf kind dialog (walkElements s kind)
 
-    pub refused-edge : {r : Elements} → end ≡ 0 → r ≡ refusedElements elementEdge (w .at) → r ≡ walkElements s kind
+  module _ (h : length s ≤ at) where
+    ended : requestOf kind dialog w ≡ requestOf kind dialog (walkElements s kind)
+    ended = ap (requestOf kind dialog) (done (i .rest) (stop-end _ _ _ refl h))
+
+    pub lacks : {r : Request} {lacking : Bool} → lacking ≡ lacksElement kind count → lacking ≡ true → r ≡ refusedRequest noElement 0 → Reads r
+    unfolding requestOf if_then_else_
+    lacks f x q = q ∙ rw (← f, x) at ended
+
+    pub found : {lacking : Bool} → lacking ≡ lacksElement kind count → lacking ≡ false
+        → Reads (record { refusal = noRefusal; kind = kind; dialog = dialog; count = count; elements = es })
+    unfolding requestOf if_then_else_
+    found f x = rw (← f, x) at ended
+
+  module _ (h : at < length s) {end : ℕ} (e : end ≡ pieceEnd s at (length s)) where
+    refuses : {r : Request} (n p : ℕ) → (n ≡ 0 → ⊥) → r ≡ refusedRequest n p → refusedElements n p ≡ elementStep s kind w → Reads r
+    refuses n p z q f =
+        q ∙ refused-walk kind dialog n p z ∙ ap (requestOf kind dialog) (last (i .rest) (go-on _ _ _ refl h) (omega arith) f (stop-refused n 0 (length s) z))
+
+    pub refused-edge : {r : Request} → end ≡ 0 → r ≡ refusedRequest elementEdge at → Reads r
     unfolding elementStep if_then_else_
     refused-edge z q = refuses 4 _ (λ x. omega arith) q (rw (← e, eq-eqb end 0 z))
 
     module _ (z : end ≡ 0 → ⊥) where
-      ends : Ends s (w .at) (length s) end
-      ends = rw e (piece-ends s (w .at) (length s) (λ y. z (e ∙ y)))
+      ends : Ends s at (length s) end
+      ends = rw e (piece-ends s at (length s) (λ y. z (e ∙ y)))
 
-      pub moves : length s - end < length s - w .at
+      pub moves : length s - end < length s - at
       moves = omega (arith, ends .is)
 
-      pub within : {n : ℕ} → n ≡ getD s (w .at + 1) 0 → n < 256 → end ≤ w .at + 257
+      pub within : {n : ℕ} → n ≡ getD s (at + 1) 0 → n < 256 → end ≤ at + 257
       within m x = omega (arith, m, ends .is)
 
-      goes : (k : ℕ) (es : List Element) → length es ≡ 8 → record { refusal = noRefusal; at = end; count = k; elements = es } ≡ elementStep s kind w
-          → Walking s kind (record { refusal = w .refusal; at = end; count = k; elements = es })
-      goes k es l q = rw (i .sound) (record { sound = refl; eight = l; rest = again _ (i .rest) (go-on _ _ _ unrefused h) moves q })
+      goes : (k : ℕ) (fs : List Element) → length fs ≡ 8 → walks end k fs ≡ elementStep s kind w → Walking s kind end k fs
+      goes k fs l q = record { eight = l; rest = again _ (i .rest) (go-on _ _ _ refl h) moves q }
 
-      module _ {id own : ℕ} (d : id ≡ getD s (w .at) 0) (o : own ≡ requestId kind) where
-        pub passed-over : (id ≡ own → ⊥) → Walking s kind (record { refusal = w .refusal; at = end; count = w .count; elements = w .elements })
+      module _ {id own : ℕ} (d : id ≡ getD s at 0) (o : own ≡ requestId kind) where
+        pub passed-over : (id ≡ own → ⊥) → Walking s kind end count es
         unfolding elementStep if_then_else_
-        passed-over y = goes (w .count) (w .elements) (i .eight) (rw (← e, ne-eqb end 0 z, ← d, ← o, ne-eqb id own y))
+        passed-over y = goes count es (i .eight) (rw (← e, ne-eqb end 0 z, ← d, ← o, ne-eqb id own y))
 
         module _ (y : id ≡ own) where
           owns : ownStep s kind w end ≡ elementStep s kind w
           unfolding elementStep if_then_else_
           owns = rw (← e, ne-eqb end 0 z, ← d, ← o, eq-eqb id own y)
 
-          pub refused-ninth : {r : Elements} → 8 ≤ w .count → r ≡ refusedElements ninthElement (w .at) → r ≡ walkElements s kind
+          pub refused-ninth : {r : Request} → 8 ≤ count → r ≡ refusedRequest ninthElement at → Reads r
           unfolding ownStep if_then_else_
-          refused-ninth k q = refuses 9 _ (λ x. omega arith) q (rw (← owns, le-leb 8 (w .count) k))
+          refused-ninth k q = refuses 9 _ (λ x. omega arith) q (rw (← owns, le-leb 8 count k))
 
-          module _ (k : w .count < 8) {n least : ℕ} (m : n ≡ getD s (w .at + 1) 0) (b : least ≡ leastBody kind) where
-            pub refused-length : {r : Elements} → n < least → r ≡ refusedElements elementLength (w .at) → r ≡ walkElements s kind
+          module _ (k : count < 8) {n least : ℕ} (m : n ≡ getD s (at + 1) 0) (b : least ≡ leastBody kind) where
+            pub refused-length : {r : Request} → n < least → r ≡ refusedRequest elementLength at → Reads r
             unfolding ownStep if_then_else_
-            refused-length l q = refuses 5 _ (λ x. omega arith) q (rw (← owns, lt-leb 8 (w .count) k, ← m, ← b, lt-ltb n least l))
+            refused-length l q = refuses 5 _ (λ x. omega arith) q (rw (← owns, lt-leb 8 count k, ← m, ← b, lt-ltb n least l))
 
-            module _ (l : least ≤ n) {t : ℕ} {bad : Bool} (g : t ≡ getD s (w .at + 2) 0) (f : bad ≡ badToken kind (take (w .count) (w .elements)) t) where
-              pub refused-token : {r : Elements} → bad ≡ true → r ≡ refusedElements elementToken (w .at) → r ≡ walkElements s kind
+            module _ (l : least ≤ n) {t : ℕ} {bad : Bool} (g : t ≡ getD s (at + 2) 0) (f : bad ≡ badToken kind (take count es) t) where
+              pub refused-token : {r : Request} → bad ≡ true → r ≡ refusedRequest elementToken at → Reads r
               unfolding ownStep if_then_else_
-              refused-token x q = refuses 6 _ (λ x. omega arith) q (rw (← owns, lt-leb 8 (w .count) k, ← m, ← b, le-ltb n least l, ← g, ← f, x))
+              refused-token x q = refuses 6 _ (λ x. omega arith) q (rw (← owns, lt-leb 8 count k, ← m, ← b, le-ltb n least l, ← g, ← f, x))
 
-              module _ (x : bad ≡ false) {subs : Subelements} (u : subs ≡ subelementsOf s kind (w .at) end) where
+              module _ (x : bad ≡ false) {subs : Subelements} (u : subs ≡ subelementsOf s kind at end) where
                 with-subelements : withElement s kind w end subs ≡ elementStep s kind w
                 unfolding ownStep if_then_else_
-                with-subelements = rw (← owns, lt-leb 8 (w .count) k, ← m, ← b, le-ltb n least l, ← g, ← f, x, ← u)
+                with-subelements = rw (← owns, lt-leb 8 count k, ← m, ← b, le-ltb n least l, ← g, ← f, x, ← u)
 
-                pub refused-subelements : {r : Elements} → (subs .refusal .number ≡ 0 → ⊥) → r ≡ refusedElements (subs .refusal .number) (subs .refusal .place) → r ≡ walkElements s kind
+                pub refused-subelements : {r : Request} → (subs .refusal .number ≡ 0 → ⊥) → r ≡ refusedRequest (subs .refusal .number) (subs .refusal .place) → Reads r
                 unfolding withElement if_then_else_
                 refused-subelements v q = refuses _ _ v q (rw (← with-subelements, ne-eqb (subs .refusal .number) 0 v))
 
-                pub added : {a : Element} → subs .refusal .number ≡ 0 → a ≡ elementOf s kind (w .at) subs
-                    → Walking s kind (record { refusal = w .refusal; at = end; count = w .count + 1; elements = set (w .elements) (w .count) a })
+                pub added : {a : Element} → subs .refusal .number ≡ 0 → a ≡ elementOf s kind at subs → Walking s kind end (count + 1) (set es count a)
                 unfolding withElement if_then_else_
                 added v q =
-                    rw q (goes (w .count + 1) (set (w .elements) (w .count) _) (length-set (w .elements) (w .count) _ ∙ i .eight) (rw (← with-subelements, eq-eqb (subs .refusal .number) 0 v)))
+                    rw q (goes (count + 1) (set es count _) (length-set es count _ ∙ i .eight) (rw (← with-subelements, eq-eqb (subs .refusal .number) 0 v)))

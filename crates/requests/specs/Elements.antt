@@ -17,7 +17,6 @@ use Rattle.octets.specs.Elements.{pieceEnd}
 use Rattle.subelements.specs.declared.Subelements.{Subelements}
 use Rattle.subelements.specs.Subelements.{noFilter, walked, walk}
 use Rattle.requests.specs.declared.Element.{Element}
-use Rattle.requests.specs.declared.Elements.{Elements}
 
 -- ---- the fields of one element, whose header stands at a position
 
@@ -84,6 +83,13 @@ zeroToken Diagnostic token = false
 -- "Token repeated among a frame's requests, or event token 0", behind some elements
 unfoldable pub badToken : Kind → List Element → ℕ → Bool
 badToken kind es token = if zeroToken kind token then true else hasToken es token
+
+-- how far a walk has come: refused, or the next position, and the elements so far: the first count; the other places are blank
+pub record Elements : Type 0 where
+  pub refusal : Refusal
+  pub at : ℕ
+  pub count : ℕ
+  pub elements : List Element
 
 -- a walk with no element yet; a refused walk has nothing else
 abbrev pub started : Refusal → ℕ → Elements

@@ -10,9 +10,8 @@ use Rattle.octets.specs.declared.numbers.Kind.{Kind}
 use Rattle.octets.specs.declared.numbers.Kind.the-variants.{Event, Diagnostic}
 use Rattle.octets.specs.Refusals.{refused, noRefusal, frameLength, frameHeader, dialogToken, noElement}
 use Rattle.octets.specs.Numbers.{category, requestAction, shortestFrame, longestFrame}
-use Rattle.requests.specs.declared.Elements.{Elements}
 use Rattle.requests.specs.declared.Request.{Request}
-use Rattle.requests.specs.Elements.{blankElements, walkElements}
+use Rattle.requests.specs.Elements.{blankElements, Elements, walkElements}
 
 -- a refused request: everything but the refusal is fixed
 abbrev pub refusedRequest : ℕ → ℕ → Request
@@ -30,18 +29,22 @@ requestOf kind dialog w =
     else if lacksElement kind (w .count) then refusedRequest noElement 0
     else record { refusal = noRefusal; kind = kind; dialog = dialog; count = w .count; elements = w .elements }
 
--- a frame whose action is that of a kind
-unfoldable pub readKind : List ℕ → Kind → Request
-readKind s kind =
-    if eqb (getD s 2 0) 0 then refusedRequest dialogToken 0
-    else requestOf kind (getD s 2 0) (walkElements s kind)
+-- the kind of a frame by its action: any other action than a diagnostic's is refused where it is not an event's
+unfoldable pub kindOf : List ℕ → Kind
+kindOf s = if eqb (getD s 1 0) (requestAction Diagnostic) then Diagnostic else Event
 
--- "Octets 0, 1, 2: category 10, action, dialog token."
+-- "Octets 0, 1, 2: category 10, action, dialog token": why they are refused, 1, 2 or 3 in this order; 0: they are not
+unfoldable pub headerCause : List ℕ → Kind → ℕ
+headerCause s kind =
+    if ltb (length s) shortestFrame then frameLength
+    else if ltb longestFrame (length s) then frameLength
+    else if not (eqb (getD s 0 0) category) then frameHeader
+    else if not (eqb (getD s 1 0) (requestAction kind)) then frameHeader
+    else if eqb (getD s 2 0) 0 then dialogToken
+    else 0
+
+-- "1, 2, 3, then elements from the front, .. and 10 at the end"
 unfoldable pub readRequest : List ℕ → Request
 readRequest s =
-    if ltb (length s) shortestFrame then refusedRequest frameLength 0
-    else if ltb longestFrame (length s) then refusedRequest frameLength 0
-    else if not (eqb (getD s 0 0) category) then refusedRequest frameHeader 0
-    else if eqb (getD s 1 0) (requestAction Event) then readKind s Event
-    else if eqb (getD s 1 0) (requestAction Diagnostic) then readKind s Diagnostic
-    else refusedRequest frameHeader 0
+    if not (eqb (headerCause s (kindOf s)) 0) then refusedRequest (headerCause s (kindOf s)) 0
+    else requestOf (kindOf s) (getD s 2 0) (walkElements s (kindOf s))

@@ -13,9 +13,9 @@ use subelements::Subelements;
 use subelements::walk_request;
 ghost use mathlib.Core.Path.{_≡_};
 ghost use Prim.Native.Nat.{_+_, _≤_, _<_};
-ghost use lib.ListN.{length, take};
-ghost use Rattle.requests.specs.Elements.{leastBody, limitAt, timeoutAt, subelementsStart, subelementsOf, elementOf, hasToken, zeroToken, badToken, started, refusedElements, walkElements};
-ghost use Rattle.requests.specs.Requests.{refusedRequest, lacksElement, requestOf, readKind, readRequest};
+ghost use lib.ListN.{length, getD, take};
+ghost use Rattle.requests.specs.Elements.{leastBody, limitAt, timeoutAt, subelementsStart, subelementsOf, elementOf, blankElements, hasToken, zeroToken, badToken, walkElements};
+ghost use Rattle.requests.specs.Requests.{refusedRequest, lacksElement, requestOf, kindOf, headerCause, readRequest};
 
 // The most elements that a request has.
 pub const MOST_ELEMENTS: usize = 8;
@@ -40,15 +40,6 @@ pub struct Request {
     pub refusal: Refusal,
     pub kind: Kind,
     pub dialog: u8,
-    pub count: usize,
-    pub elements: [Element; 8],
-}
-
-// How far a walk over the elements of a frame has come: refused, or the next position, and the
-// request elements so far. Public for the round trip's proof alone.
-pub struct Elements {
-    pub refusal: Refusal,
-    pub at: usize,
     pub count: usize,
     pub elements: [Element; 8],
 }
@@ -165,72 +156,24 @@ pub fn bad_token(kind: Kind, es: [Element; 8], n: usize, token: u8) -> bool
     has_token(es, n, token)
 }
 
-// A walk with no element yet.
-fn start(refusal: Refusal, at: usize) -> Elements
-    ensures { λ r. ⌜ r ≡ started refusal at ⌝ }
+// What stands where a request has no element.
+fn blank_elements() -> [Element; 8]
+    ensures { λ r. ⌜ r ≡ blankElements ⌝ }
 {
-    Elements {
-        refusal,
-        at,
-        count: 0,
-        elements: [Element {
-            token: 0,
-            ty: 0,
-            limit: 0,
-            subs: 0,
-            timeout: 0,
-            filter: [Condition {
-                present: false,
-                octets: [0; 6],
-            }; 5],
-        }; 8],
-    }
+    [Element {
+        token: 0,
+        ty: 0,
+        limit: 0,
+        subs: 0,
+        timeout: 0,
+        filter: [Condition {
+            present: false,
+            octets: [0; 6],
+        }; 5],
+    }; 8]
 }
 
-fn refused(number: u8, place: usize) -> Elements
-    ensures { λ r. ⌜ r ≡ refusedElements number place ⌝ }
-{
-    start(Refusal::new(number, place), 0)
-}
-
-// The elements behind the three octets of the header.
-fn walk_elements(s: &[u8], kind: Kind) -> Elements
-    requires { ⌜ length (now s) ≤ 2304 ⌝ }
-    ensures { λ r. ⌜ r ≡ walkElements (now (s .entry)) kind ⌝ }
-{
-    let mut w = start(Refusal::none(), 3);
-    while w.at < s.len() {
-        let at = w.at;
-        let end = piece_end(s, at, s.len());
-        if end == 0 {
-            return refused(causes::ELEMENT_EDGE, at);
-        }
-        w.at = end;
-        if octet(s, at) != kind.request_id() {
-            continue;
-        }
-        let n = w.count;
-        if MOST_ELEMENTS <= n {
-            return refused(causes::NINTH_ELEMENT, at);
-        }
-        if size(s, at + 1) < least_body(kind) {
-            return refused(causes::ELEMENT_LENGTH, at);
-        }
-        let es = w.elements;
-        if bad_token(kind, es, n, octet(s, at + 2)) {
-            return refused(causes::ELEMENT_TOKEN, at);
-        }
-        let subs = subelements_of(s, kind, at, end);
-        if subs.refusal.number != 0 {
-            return refused(subs.refusal.number, subs.refusal.place);
-        }
-        w.elements[n] = element_of(s, kind, at, subs);
-        w.count = n + 1;
-    }
-    w
-}
-
-fn refused_request(number: u8, place: usize) -> Request
+fn refused(number: u8, place: usize) -> Request
     ensures { λ r. ⌜ r ≡ refusedRequest number place ⌝ }
 {
     Request {
@@ -238,17 +181,7 @@ fn refused_request(number: u8, place: usize) -> Request
         kind: Kind::Event,
         dialog: 0,
         count: 0,
-        elements: [Element {
-            token: 0,
-            ty: 0,
-            limit: 0,
-            subs: 0,
-            timeout: 0,
-            filter: [Condition {
-                present: false,
-                octets: [0; 6],
-            }; 5],
-        }; 8],
+        elements: blank_elements(),
     }
 }
 
@@ -262,59 +195,94 @@ pub fn lacks_element(kind: Kind, count: usize) -> bool
     }
 }
 
-fn request_of(kind: Kind, dialog: u8, w: Elements) -> Request
-    ensures { λ r. ⌜ r ≡ requestOf kind dialog w ⌝ }
+// The elements behind the three octets of the header. They are a local of their own, no field of what
+// is returned: the compiler then makes them where the caller wants them.
+fn read_elements(s: &[u8], kind: Kind) -> Request
+    requires { ⌜ length (now s) ≤ 2304 ⌝ }
+    ensures { λ r. ⌜ r ≡ requestOf kind (getD (now (s .entry)) 2 0) (walkElements (now (s .entry)) kind) ⌝ }
 {
-    if w.refusal.number != 0 {
-        return refused_request(w.refusal.number, w.refusal.place);
+    let mut elements = blank_elements();
+    let mut n: usize = 0;
+    let mut next: usize = 3;
+    while next < s.len() {
+        let at = next;
+        let end = piece_end(s, at, s.len());
+        if end == 0 {
+            return refused(causes::ELEMENT_EDGE, at);
+        }
+        next = end;
+        if octet(s, at) != kind.request_id() {
+            continue;
+        }
+        if MOST_ELEMENTS <= n {
+            return refused(causes::NINTH_ELEMENT, at);
+        }
+        if size(s, at + 1) < least_body(kind) {
+            return refused(causes::ELEMENT_LENGTH, at);
+        }
+        if bad_token(kind, elements, n, octet(s, at + 2)) {
+            return refused(causes::ELEMENT_TOKEN, at);
+        }
+        let subs = subelements_of(s, kind, at, end);
+        if subs.refusal.number != 0 {
+            return refused(subs.refusal.number, subs.refusal.place);
+        }
+        elements[n] = element_of(s, kind, at, subs);
+        n += 1;
     }
-    let count = w.count;
-    if lacks_element(kind, count) {
-        return refused_request(causes::NO_ELEMENT, 0);
+    if lacks_element(kind, n) {
+        return refused(causes::NO_ELEMENT, 0);
     }
-    let elements = w.elements;
     Request {
         refusal: Refusal::none(),
         kind,
-        dialog,
-        count,
+        dialog: octet(s, 2),
+        count: n,
         elements,
     }
 }
 
-// A frame whose action is that of a kind.
-fn read_kind(s: &[u8], kind: Kind) -> Request
-    requires { ⌜ length (now s) ≤ 2304 ⌝ }
-    ensures { λ r. ⌜ r ≡ readKind (now (s .entry)) kind ⌝ }
+// The kind of a frame by its action.
+fn kind_of(s: &[u8]) -> Kind
+    ensures { λ r. ⌜ r ≡ kindOf (now (s .entry)) ⌝ }
 {
-    let dialog = octet(s, 2);
-    if dialog == 0 {
-        return refused_request(causes::DIALOG_TOKEN, 0);
+    if octet(s, 1) == Kind::Diagnostic.request_action() {
+        return Kind::Diagnostic;
     }
-    request_of(kind, dialog, walk_elements(s, kind))
+    Kind::Event
 }
 
-// Reads one request frame. One call of its reader for both kinds: the compiler then makes the request
-// where the caller wants it.
+// Why the header of a frame of a kind is refused; 0 where it is not. One number for all of it, so that
+// a refused request is made at one place.
+fn header_cause(s: &[u8], kind: Kind) -> u8
+    ensures { λ r. ⌜ r ≡ headerCause (now (s .entry)) kind ⌝ }
+{
+    if s.len() < numbers::SHORTEST_FRAME {
+        return causes::FRAME_LENGTH;
+    }
+    if numbers::LONGEST_FRAME < s.len() {
+        return causes::FRAME_LENGTH;
+    }
+    if octet(s, 0) != numbers::CATEGORY {
+        return causes::FRAME_HEADER;
+    }
+    if octet(s, 1) != kind.request_action() {
+        return causes::FRAME_HEADER;
+    }
+    if octet(s, 2) == 0 {
+        return causes::DIALOG_TOKEN;
+    }
+    0
+}
+
+// Reads one request frame.
 pub fn read_request(s: &[u8]) -> Request
     ensures { λ r. ⌜ r ≡ readRequest (now (s .entry)) ⌝ }
 {
-    if s.len() < numbers::SHORTEST_FRAME {
-        return refused_request(causes::FRAME_LENGTH, 0);
+    let kind = kind_of(s);
+    let cause = header_cause(s, kind);
+    if cause != 0 {
+        return refused(cause, 0);
     }
-    if numbers::LONGEST_FRAME < s.len() {
-        return refused_request(causes::FRAME_LENGTH, 0);
-    }
-    if octet(s, 0) != numbers::CATEGORY {
-        return refused_request(causes::FRAME_HEADER, 0);
-    }
-    let action = octet(s, 1);
-    let mut kind = Kind::Event;
-    if action != Kind::Event.request_action() {
-        if action != Kind::Diagnostic.request_action() {
-            return refused_request(causes::FRAME_HEADER, 0);
-        }
-        kind = Kind::Diagnostic;
-    }
-    read_kind(s, kind)
+    read_elements(s, kind)
 }
