@@ -9,8 +9,8 @@ use native.Mathlib.Numerals.{add-one}
 use native.Mathlib.Nat.{add-zero, le-of-suc-le-suc, not-suc-le-zero}
 use native.Mathlib.Omega.{arith}
 use lib.Dec.{leb}
-use lib.ListN.{length, getD, getElem?, take, drop, set, length-take, length-map, drop-of-length-le}
-use lib.Seq.{drop-cons, take-suc, take-suc-set, take-all, set-at, getD-at, getD-take, append-snoc, getD-append-add, getD-drop}
+use lib.ListN.{length, getD, getElem?, take, drop, set, length-take, length-map, length-set, drop-of-length-le}
+use lib.Seq.{drop-cons, take-suc, take-suc-set, take-all, take-at, take-set-lt, drop-set-lt, set-at, getD-at, getD-set-same, getD-take, append-snoc, getD-append-add, getD-drop}
 use borrow.Author.Tests.{leb-true, leb-false}
 
 -- ---- structs: what owning an array of them tells of its length
@@ -61,6 +61,23 @@ module _ {A : Type 0} (f : A → A) (l : List A) where
   pub mapped-all : (n : ℕ) → length l ≡ n → mapped n ≡ map f l
   mapped-all n h = rw (take-all n l (omega arith), drop-of-length-le l {i = n} (omega arith)) (append-nil (map f l))
 
+  -- the first n of an array whose first n are mapped, or all where n passes its end
+  pub mapped-first : (n m end : ℕ) → length l ≡ m → end ≡ min n m → take n (mapped end) ≡ map f (take n l)
+  mapped-first n m end e h = go (leb n m) refl
+    where
+      size : length (map f (take end l)) ≡ end
+      size = length-map (take end l) f ∙ length-take end l ∙ omega arith
+
+      go : (b : Bool) → leb n m ≡ b → take n (mapped end) ≡ map f (take n l)
+      go true t =
+          let p = leb-true n m t in
+          let q : end ≡ n = omega arith in
+          take-at (map f (take end l)) (drop end l) n (size ∙ q) ∙ ap (λ (k : ℕ). map f (take k l)) q
+      go false t =
+          let p = leb-false n m t in
+          let q : end ≡ m = omega arith in
+          rw (q, mapped-all m e) (take-all n (map f l) (omega (arith, length-map l f)) ∙ ap (map f) (sym (take-all n l (omega arith))))
+
 -- ---- the first places
 
 -- what is left of the first n elements from i on, is the i-th and those behind it
@@ -92,6 +109,13 @@ pub fill-mapped : {A B : Type 0} (f : A → B) (from : List A) (to : List B) (i 
     → take i to ≡ map f (take i from) → y ≡ f (getD from i d) → take (i + 1) (set to i y) ≡ map f (take (i + 1) from)
 fill-mapped f from to i d y h k e q =
     rw (add-one, take-suc-set to i y k, take-suc from i d h, map-append f (take i from) (getD from i d ∷ []), e, q)
+
+-- one more place of such an array, from the back
+pub fill-back : {A B : Type 0} (f : A → B) (from : List A) (to : List B) (end i : ℕ) (d : A) (y : B) → i < end → end ≤ length from → end ≤ length to
+    → drop (i + 1) (take end to) ≡ map f (drop (i + 1) (take end from)) → y ≡ f (getD from i d)
+    → drop i (take end (set to i y)) ≡ map f (drop i (take end from))
+fill-back f from to end i d y h k m e q =
+    rw (take-next (set to i y) y end i h (omega (arith, length-set to i y)), getD-set-same to i y y (omega arith), take-set-lt end to i y h, drop-set-lt (i + 1) (take end to) i y (omega arith), take-next from d end i h (omega arith), e, q)
 
 pub mapped-within : {A B : Type 0} (f : A → B) (from : List A) (to : List B) (i m end n : ℕ) → length from ≡ m → end ≡ min n m → i ≡ end
     → take i to ≡ map f (take i from) → take end to ≡ map f (take n from)

@@ -22,6 +22,17 @@ module _ {A : Type 0} (some-of : List A → Bool) (one : A → List A → Bool) 
   pub some-none : length l ≤ i → false ≡ some-of (drop i l)
   some-none h = rw (drop-of-length-le l {i = i} h, nil)
 
+-- what some of the last elements have, some of all have
+module _ {A : Type 0} (some-of : List A → Bool) (one : A → List A → Bool) (cons : (x : A) (xs : List A) → some-of (x ∷ xs) ≡ (one x xs || some-of xs)) where
+  pub some-behind : (l : List A) (i : ℕ) → true ≡ some-of (drop i l) → true ≡ some-of l
+  some-behind l zero e = e
+  some-behind [] (suc i) e = e
+  some-behind (x ∷ l) (suc i) e = rw (cons x l, ← some-behind l i e) (go (one x l))
+    where
+      go : (b : Bool) → true ≡ (b || true)
+      go true = refl
+      go false = refl
+
 -- where a list has none, no place of it has, nor what stands past its end
 module _ {A : Type 0} (some-of : List A → Bool) (one : A → Bool) (cons : (x : A) (xs : List A) → some-of (x ∷ xs) ≡ (one x || some-of xs)) (d : A)
     (past : one d ≡ false) where

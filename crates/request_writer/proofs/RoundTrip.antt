@@ -16,7 +16,7 @@ use Rattle.laws.proofs.Walk.{start}
 use Rattle.octets.specs.declared.numbers.Kind.{Kind}
 use Rattle.octets.specs.declared.numbers.Kind.the-variants.{Event, Diagnostic}
 use Rattle.octets.specs.declared.refusals.Refusal.{Refusal}
-use Rattle.octets.specs.Refusals.{frameLength, frameHeader, ninthElement, noElement}
+use Rattle.octets.specs.Refusals.{frameLength, ninthElement, noElement}
 use Rattle.octets.specs.Numbers.{requestAction}
 use Rattle.requests.specs.declared.Element.{Element}
 use Rattle.requests.specs.declared.Request.{Request}

@@ -6,14 +6,14 @@ use mathlib.Core.Bool.{Bool, true, false}
 use mathlib.Core.List.{List, [], _∷_, _++_, append-assoc, append-nil}
 use mathlib.Core.Option.{none, some}
 use lib.Dec.{ltb}
-use lib.ListN.{length, getD, drop, drop-of-length-le}
-use lib.Seq.{drop-cons}
+use lib.ListN.{length, getD, take, drop, set, drop-of-length-le}
+use lib.Seq.{drop-cons, take-suc-set}
 use native.Mathlib.Numerals.{add-one}
 use native.Mathlib.Omega.{arith}
 use borrow.Author.Tests.{lt-ltb}
 use Rattle.laws.specs.Choice.{if_then_else_}
 use Rattle.model.specs.declared.Diagnostic.{Diagnostic}
-use Rattle.laws.proofs.Tests.{some-here, some-later, some-none}
+use Rattle.laws.proofs.Tests.{some-here, some-later, some-none, some-behind}
 use Rattle.model.specs.Diagnostics.{diagnosticTreatment, isCancel, holdsCancel, isLate, onTime, unlessOver}
 
 -- a request by the number of its elements
@@ -40,6 +40,16 @@ module _ (reading accepted : ℕ) where
       rw (f, append-assoc k (onTime reading accepted (x ∷ [])) (onTime reading accepted (drop (i + 1) l)), on-time-cons x (drop (i + 1) l))
       (rw (drop-cons l i d h, ← add-one i, q) at e)
 
+  -- what a place adds to what is kept: its element at the next place of es, or nothing
+  pub on-time-kept : (x : Diagnostic) (es : List Diagnostic) (n : ℕ) → n < length es → isLate reading accepted x ≡ false
+      → take (n + 1) (set es n x) ≡ take n es ++ onTime reading accepted (x ∷ [])
+  unfolding onTime if_then_else_
+  on-time-kept x es n h e = rw (e, add-one) (take-suc-set es n x h)
+
+  pub on-time-late : (x : Diagnostic) (k : List Diagnostic) → isLate reading accepted x ≡ true → k ≡ k ++ onTime reading accepted (x ∷ [])
+  unfolding onTime if_then_else_
+  on-time-late x k e = rw e (sym (append-nil k))
+
   pub on-time-end : (l : List Diagnostic) (i : ℕ) (k whole : List Diagnostic) → length l ≤ i → k ++ onTime reading accepted (drop i l) ≡ whole → k ≡ whole
   unfolding onTime
   on-time-end l i k whole h e = sym (append-nil k) ∙ (rw (drop-of-length-le l {i = i} h) at e)
@@ -60,3 +70,7 @@ module _ (l : List Diagnostic) where
   pub cancel-none : (i : ℕ) → length l ≤ i → false ≡ holdsCancel (drop i l)
   unfolding holdsCancel
   cancel-none i h = some-none holdsCancel (λ y ys. isCancel (diagnosticTreatment (y .ty))) refl (λ y ys. refl) l i h
+
+  pub cancel-behind : (i : ℕ) → true ≡ holdsCancel (drop i l) → true ≡ holdsCancel l
+  unfolding holdsCancel
+  cancel-behind i e = some-behind holdsCancel (λ y ys. isCancel (diagnosticTreatment (y .ty))) (λ y ys. refl) l i e

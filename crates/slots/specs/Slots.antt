@@ -1,12 +1,19 @@
 -- What the code of the slots speaks of beside the model.
 -- Assumes nothing.
 use Prim.Native.Nat.{ℕ, suc}
+use mathlib.Core.Bool.{Bool, false, not, _&&_, _||_}
 use mathlib.Core.List.{List, [], _∷_}
+use mathlib.Core.Option.{Option, none}
+use lib.Dec.{eqb}
 use lib.ListN.{take}
 use Rattle.laws.specs.Choice.{if_then_else_}
+use Rattle.octets.specs.declared.numbers.Kind.{Kind}
+use Rattle.octets.specs.declared.numbers.Kind.the-variants.{Event, Diagnostic as Kind·Diagnostic}
 use Rattle.octets.specs.Addresses.{same}
+use Rattle.requests.specs.declared.Request.{Request}
 use Rattle.model.specs.declared.Diagnostic.{Diagnostic}
-use Rattle.model.specs.Model.{Address, Requester}
+use Rattle.model.specs.Model.{Address, DiagnosticRequest, Requester}
+use Rattle.model.specs.Diagnostics.{diagnosticsOf, holdsCancel, unlessOver}
 use Rattle.slots.specs.declared.diagnostics.Diagnostics.{Diagnostics}
 
 -- the elements that a list of them has
@@ -17,3 +24,18 @@ listed k = take (k .count) (k .elements)
 unfoldable pub place : Address → List Requester → ℕ
 place a [] = 0
 place a (r ∷ rs) = if same a (r .address) then 0 else suc (place a rs)
+
+-- whether an accepted frame of a kind changes the event request, which is outstanding by a test, with its dialog token: an equal one
+-- does not
+unfoldable pub renewsEvents : Request → Bool → ℕ → Kind → Bool
+renewsEvents q outstanding current Event = not (outstanding && eqb (q .dialog) current)
+renewsEvents q outstanding current Kind·Diagnostic = false
+
+-- the same of the diagnostic request: a Cancel "comes before the equal-token rule"
+unfoldable pub renewsDiagnostics : Request → Bool → ℕ → Kind → Bool
+renewsDiagnostics q outstanding current Event = false
+renewsDiagnostics q outstanding current Kind·Diagnostic = holdsCancel (diagnosticsOf q) || not (outstanding && eqb (q .dialog) current)
+
+-- what a frame that changes it leaves: none by a Cancel
+unfoldable pub newDiagnostics : ℕ → Request → Option DiagnosticRequest
+newDiagnostics reading q = if holdsCancel (diagnosticsOf q) then none else unlessOver (q .dialog) reading (diagnosticsOf q)

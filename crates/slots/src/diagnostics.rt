@@ -2,6 +2,7 @@
 use crate::dialogs::is_repeated;
 use model::Diagnostic;
 use model::Treatment;
+use octets::Kind;
 use octets::least;
 use requesters::DiagnosticRequest;
 use requesters::diagnostic_treatment;
@@ -9,12 +10,13 @@ use requests::Element;
 use requests::Request;
 use units::Milliseconds;
 ghost use mathlib.Core.Path.{_≡_};
-ghost use mathlib.Core.List.{[], _∷_, _++_};
-ghost use Prim.Native.Nat.{_+_, _≤_, _<_};
+ghost use mathlib.Core.Bool.{not, _&&_, _||_};
+ghost use Prim.Native.Nat.{_≤_};
+ghost use lib.Dec.{eqb};
 ghost use mathlib.Core.Option.{none};
-ghost use Rattle.model.specs.Diagnostics.{isLate, onTime, unlessOver, dropLate, isCancel, holdsCancel, diagnosticOf, diagnosticsOf, takeDiagnostics};
+ghost use Rattle.model.specs.Diagnostics.{isLate, onTime, unlessOver, dropLate, isCancel, holdsCancel, diagnosticOf, diagnosticsOf};
 ghost use Rattle.requesters.specs.Views.{left, viewDiagnostics};
-ghost use Rattle.slots.specs.Slots.{listed};
+ghost use Rattle.slots.specs.Slots.{listed, renewsDiagnostics, newDiagnostics};
 
 // The first count of a request's elements; the other places are free.
 pub struct Diagnostics {
@@ -28,23 +30,6 @@ fn is_late(reading: Milliseconds, accepted: Milliseconds, x: Diagnostic) -> bool
     reading
         .since(accepted)
         .exceeds(Milliseconds::from_seconds(x.timeout))
-}
-
-// An element behind the others, unless it is late.
-fn keep(k: Diagnostics, x: Diagnostic, reading: Milliseconds, accepted: Milliseconds) -> Diagnostics
-    requires { ⌜ k .count < 8 ⌝ }
-    ensures { λ r. ⌜ (listed r ≡ listed k ++ onTime (reading .0) (accepted .0) (x ∷ [])) × (r .count ≤ k .count + 1) ⌝ }
-{
-    if is_late(reading, accepted, x) {
-        return k;
-    }
-    let n = k.count;
-    let mut elements = k.elements;
-    elements[n] = x;
-    Diagnostics {
-        count: n + 1,
-        elements,
-    }
 }
 
 // A request of these elements; with none it is over.
@@ -68,15 +53,20 @@ fn kept(d: DiagnosticRequest, reading: Milliseconds) -> Diagnostics
     ensures { λ r. ⌜ (listed r ≡ onTime (reading .0) (d .accepted .0) (left (d .first) (d .count) (d .elements))) × (r .count ≤ 8) ⌝ }
 {
     let accepted = d.accepted;
-    let elements = d.elements;
+    let all = d.elements;
     let end = least(d.count, 8);
     let mut i = d.first;
-    let mut k = Diagnostics { count: 0, elements };
+    let mut elements = all;
+    let mut count: usize = 0;
     while i < end {
-        k = keep(k, elements[i], reading, accepted);
+        let x = all[i];
+        if !is_late(reading, accepted, x) {
+            elements[count] = x;
+            count += 1;
+        }
         i += 1;
     }
-    k
+    Diagnostics { count, elements }
 }
 
 // The late drop.
@@ -100,7 +90,8 @@ fn diagnostic_of(x: Element) -> Diagnostic
     }
 }
 
-// The elements that a frame asks for.
+// The elements that a frame asks for, from the last to the first: in the other order the compiler
+// unrolls the loop and copies each element of the frame by itself.
 fn diagnostics_of(q: Request) -> Diagnostics
     ensures { λ r. ⌜ (listed r ≡ diagnosticsOf q) × (r .count ≤ 8) ⌝ }
 {
@@ -111,10 +102,10 @@ fn diagnostics_of(q: Request) -> Diagnostics
         ty: 0,
         timeout: 0,
     }; 8];
-    let mut i: usize = 0;
-    while i < end {
+    let mut i = end;
+    while 0 < i {
+        i -= 1;
         elements[i] = diagnostic_of(asked[i]);
-        i += 1;
     }
     Diagnostics {
         count: end,
@@ -133,19 +124,18 @@ fn is_cancel(t: Treatment) -> bool
     }
 }
 
-// Is one of the elements a Cancel?
-fn holds_cancel(k: Diagnostics) -> bool
-    ensures { λ r. ⌜ r ≡ holdsCancel (listed k) ⌝ }
+// Does a frame ask for a Cancel? From the last element to the first, as above.
+fn asks_cancel(q: Request) -> bool
+    ensures { λ r. ⌜ r ≡ holdsCancel (diagnosticsOf q) ⌝ }
 {
-    let elements = k.elements;
-    let end = least(k.count, 8);
-    let mut i: usize = 0;
-    while i < end {
-        let x = elements[i];
+    let asked = q.elements;
+    let mut i = least(q.count, 8);
+    while 0 < i {
+        i -= 1;
+        let x = asked[i];
         if is_cancel(diagnostic_treatment(x.ty)) {
             return true;
         }
-        i += 1;
     }
     false
 }
@@ -168,20 +158,36 @@ pub fn no_diagnostics() -> DiagnosticRequest
     }
 }
 
-// What an accepted frame leaves.
-pub fn take_diagnostics(
-    d: DiagnosticRequest,
-    q: Request,
-    reading: Milliseconds,
-) -> DiagnosticRequest
-    ensures { λ r. ⌜ viewDiagnostics r ≡ takeDiagnostics (reading .0) q (viewDiagnostics d) ⌝ }
+// Does a frame of diagnostics change what is outstanding: by a Cancel, or as no repetition?
+fn cancels_or_opens(q: Request, outstanding: bool, current: u8) -> bool
+    ensures { λ r. ⌜ r ≡ (holdsCancel (diagnosticsOf q) || not (outstanding && eqb (q .dialog) current)) ⌝ }
 {
-    let k = diagnostics_of(q);
-    if holds_cancel(k) {
+    if asks_cancel(q) {
+        return true;
+    }
+    !is_repeated(outstanding, current, q.dialog)
+}
+
+// Does a frame, if it is accepted, change what is outstanding?
+pub fn renews_diagnostics(accepted: bool, q: Request, outstanding: bool, current: u8) -> bool
+    ensures { λ r. ⌜ r ≡ (accepted && renewsDiagnostics q outstanding current (q .kind)) ⌝ }
+{
+    if !accepted {
+        return false;
+    }
+    let kind = q.kind;
+    match kind {
+        Kind::Event => false,
+        Kind::Diagnostic => cancels_or_opens(q, outstanding, current),
+    }
+}
+
+// What a frame that changes it leaves.
+pub fn new_diagnostics(q: Request, reading: Milliseconds) -> DiagnosticRequest
+    ensures { λ r. ⌜ viewDiagnostics r ≡ newDiagnostics (reading .0) q ⌝ }
+{
+    if asks_cancel(q) {
         return no_diagnostics();
     }
-    if is_repeated(d.outstanding, d.dialog, q.dialog) {
-        return d;
-    }
-    request_of(q.dialog, reading, k)
+    request_of(q.dialog, reading, diagnostics_of(q))
 }

@@ -5,8 +5,10 @@ mod dialogs;
 mod event_requests;
 mod lists;
 
-pub use diagnostics::take_diagnostics;
-pub use event_requests::take_events;
+pub use diagnostics::new_diagnostics;
+pub use diagnostics::renews_diagnostics;
+pub use event_requests::new_events;
+pub use event_requests::renews_events;
 pub use lists::bad_list;
 pub use lists::find;
 pub use lists::lower_requesters;

@@ -1,72 +1,30 @@
 // Frame calls.
 use crate::Outcome;
 use crate::Station;
-use crate::stations::left_alone;
-use crate::stations::outcome_with;
+use crate::stations::ticked;
 use events::Log;
-use octets::Kind;
+use octets::Refusal;
 use octets::causes;
 use octets::is_group;
 use octets::least;
 use requesters::Answer;
-use requesters::Requester;
-use requesters::Served;
 use requests::Request;
 use requests::read_request;
 use slots::find;
-use slots::take_diagnostics;
-use slots::take_events;
-use slots::tick_requesters;
+use slots::new_diagnostics;
+use slots::new_events;
+use slots::renews_diagnostics;
+use slots::renews_events;
 use units::Milliseconds;
 ghost use mathlib.Core.Path.{_≡_};
-ghost use mathlib.Core.List.{List, []};
+ghost use mathlib.Core.List.{[]};
 ghost use lib.ListN.{length};
-ghost use Rattle.events.specs.declared.Entry.{Entry};
 ghost use Rattle.events.specs.Log.{logged as Log·logged};
 ghost use Rattle.model.specs.Model.{frame};
-ghost use Rattle.model.specs.Stations.{takeKind, takeRequest, step};
-ghost use Rattle.station.specs.Calls.{frameServed};
+ghost use Rattle.model.specs.Stations.{step};
+ghost use Rattle.requesters.specs.Views.{viewAnswer};
+ghost use Rattle.station.specs.Calls.{frameRefusal, frameAnswer, requestCall};
 ghost use Rattle.station.specs.Views.{view, viewOutcome};
-ghost use Rattle.requesters.specs.Views.{viewRequester, viewServed};
-
-// What an accepted frame makes of its requester, with so many entries logged.
-fn take_kind(r: Requester, q: Request, logged: usize, reading: Milliseconds) -> Requester
-    ensures { λ n. ⌜ ((log : List Entry) → length log ≡ logged → viewRequester n ≡ takeKind (reading .0) log q (viewRequester r) (q .kind)) ⌝ }
-{
-    let address = r.address;
-    let events = r.events;
-    let diagnostics = r.diagnostics;
-    let kind = q.kind;
-    match kind {
-        Kind::Event => Requester {
-            address,
-            events: take_events(events, q, logged),
-            diagnostics,
-        },
-        Kind::Diagnostic => Requester {
-            address,
-            events,
-            diagnostics: take_diagnostics(diagnostics, q, reading),
-        },
-    }
-}
-
-// A frame of a listed requester: refused by its reader, or taken.
-fn take_request(r: Requester, q: Request, logged: usize, reading: Milliseconds) -> Served
-    ensures { λ n. ⌜ ((log : List Entry) → length log ≡ logged → viewServed n [] ≡ takeRequest (reading .0) log q (viewRequester r)) ⌝ }
-{
-    let refusal = q.refusal;
-    if refusal.number != 0 {
-        return Served {
-            requester: r,
-            answer: Answer::Refused(refusal),
-        };
-    }
-    Served {
-        requester: take_kind(r, q, logged, reading),
-        answer: Answer::Accepted,
-    }
-}
 
 // How many entries are logged.
 fn logged_in(log: Log) -> usize
@@ -75,30 +33,76 @@ fn logged_in(log: Log) -> usize
     least(log.count, 64)
 }
 
-// A frame from a source that found its requester, or did not.
-fn serve_frame(
-    r: Requester,
-    found: bool,
-    destination: [u8; 6],
-    o: &[u8],
-    logged: usize,
-    reading: Milliseconds,
-) -> Served
-    ensures { λ n. ⌜ ((log : List Entry) → length log ≡ logged → viewServed n [] ≡ frameServed (reading .0) log destination (now (o .entry)) found (viewRequester r)) ⌝ }
+// Why a frame is refused, whose source found its requester or did not; number 0 where it is not. The
+// reader's own refusal comes last.
+fn frame_refusal(destination: [u8; 6], found: bool, read: Refusal) -> Refusal
+    ensures { λ r. ⌜ r ≡ frameRefusal destination found read ⌝ }
 {
     if is_group(destination) {
-        return left_alone(r, causes::GROUP_DESTINATION);
+        return Refusal::new(causes::GROUP_DESTINATION, 0);
     }
     if !found {
-        return left_alone(r, causes::UNKNOWN_REQUESTER);
+        return Refusal::new(causes::UNKNOWN_REQUESTER, 0);
     }
-    take_request(r, read_request(o), logged, reading)
+    read
+}
+
+fn answer_of(refusal: Refusal) -> Answer
+    ensures { λ r. ⌜ viewAnswer r ≡ frameAnswer refusal ⌝ }
+{
+    if refusal.number != 0 {
+        return Answer::Refused(refusal);
+    }
+    Answer::Accepted
+}
+
+// A request from a source to a destination, which its reader may have refused. A source that finds no
+// requester has the place behind the last. One way out for all answers, and of the requesters only
+// what changes is written: else the log and the requesters would be copied once more.
+fn take_request(
+    g: Station,
+    reading: Milliseconds,
+    destination: [u8; 6],
+    source: [u8; 6],
+    q: Request,
+) -> Outcome
+    ensures { λ r. ⌜ viewOutcome r [] ≡ requestCall (reading .0) destination source q (view g) ⌝ }
+{
+    let log = g.log;
+    let all = g.requesters;
+    let i = find(all, g.count, source);
+    let found = i < least(g.count, 4);
+    let at = least(i, 3);
+    let read = q.refusal;
+    let refusal = frame_refusal(destination, found, read);
+    let accepted = refusal.number == 0;
+    let mut requesters = g.requesters;
+    let mut x = requesters[at];
+    let e = x.events;
+    let d = x.diagnostics;
+    if renews_events(accepted, q, e.outstanding, e.dialog) {
+        x.events = new_events(q, logged_in(log));
+        requesters[at] = x;
+    }
+    if renews_diagnostics(accepted, q, d.outstanding, d.dialog) {
+        x.diagnostics = new_diagnostics(q, reading);
+        requesters[at] = x;
+    }
+    let identity = g.identity;
+    Outcome {
+        station: Station {
+            identity,
+            length: g.length,
+            log,
+            requesters,
+            count: g.count,
+        },
+        answer: answer_of(refusal),
+    }
 }
 
 impl Station {
-    // A frame from a source to a destination. A source that finds no requester has the place behind
-    // the last; whichever is then at hand is put back as it is, so that there is one way out for all
-    // answers: a second would cost a copy of the log.
+    // A frame from a source to a destination.
     pub fn take_frame(
         self,
         reading: Milliseconds,
@@ -108,17 +112,7 @@ impl Station {
     ) -> Outcome
         ensures { λ r. ⌜ viewOutcome r [] ≡ step (view self) (frame (reading .0) destination source (now (o .entry))) ⌝ }
     {
-        let log = self.log;
-        let all = self.requesters;
-        let i = find(all, self.count, source);
-        let found = i < least(self.count, 4);
-        let mut requesters = tick_requesters(all, reading);
-        let at = least(i, 3);
-        let r = requesters[at];
-        let s = serve_frame(r, found, destination, o, logged_in(log), reading);
-        let requester = s.requester;
-        let answer = s.answer;
-        requesters[at] = requester;
-        outcome_with(self, requesters, answer)
+        let g = ticked(self, reading);
+        take_request(g, reading, destination, source, read_request(o))
     }
 }

@@ -55,7 +55,7 @@ impl Station {
         let all = self.requesters;
         let i = find(all, self.count, source);
         let found = i < least(self.count, 4);
-        let mut requesters = tick_requesters(all, reading);
+        let mut requesters = tick_requesters(all, self.count, reading);
         let at = least(i, 3);
         let r = requesters[at];
         let s = serve_report(r, found, &identity, self.length, log, kind, buf);

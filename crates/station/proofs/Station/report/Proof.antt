@@ -5,10 +5,9 @@ use mathlib.Core.List.{map}
 use lib.Dec.{ltb}
 use lib.ListN.{length, take}
 use Rattle.laws.proofs.Arrays.{length-mapped}
-use Rattle.model.specs.Stations.{tick, tickRequester, giveReport, reportCall, act, readingOf, step}
+use Rattle.model.specs.Stations.{tick, giveReport, reportCall, act, readingOf, step}
 use Rattle.requesters.specs.Views.{viewRequester}
 use Rattle.station.specs.Views.{view}
-use Rattle.station.proofs.StationLaws.{views-within}
 use Rattle.station.proofs.CallLaws.{place-ticked, call-served}
 use borrow.Author.Needs.{needs}
 use Rattle.station.proofs.Station.report.Statement.{statement}
@@ -60,7 +59,7 @@ returns c =
     let g = tick t (view (a .self)) in
     let rs = c .before .before .before .before .before .before .before .before .before .tick-requesters .result in
     let four : length rs ≡ 4 = search (needs, length-mapped, c .before .before .before .before .before .before .before .before .before .tick-requesters .ok) in
-    let lists = views-within (tickRequester t) (a .self .count) (a .self .requesters) rs (c .before .before .before .before .before .before .before .before .before .tick-requesters .ensures) in
+    let lists = c .before .before .before .before .before .before .before .before .before .tick-requesters .ensures in
     let i = c .before .before .before .before .before .before .before .before .before .before .before .find .result in
     let is = c .before .before .before .before .before .before .before .before .before .before .before .find .ensures ∙ place-ticked (a .source) t (map viewRequester (take (a .self .count) (a .self .requesters))) in
     c .outcome-with .ensures _
