@@ -58,7 +58,7 @@ module _ {A : Type 0} (f : A → A) (l : List A) where
       rw (e, d, getD-at p (getD l i z) (drop (suc i) l) z i lp, set-at p (getD l i z) (drop (suc i) l) (f (getD l i z)) i lp, add-one, take-suc l i z h, map-append f (take i l) (getD l i z ∷ []))
       (sym (append-assoc p (f (getD l i z) ∷ []) (drop (suc i) l)))
 
-  pub mapped-all : (n : ℕ) → length l ≡ n → mapped n ≡ map f l
+  mapped-all : (n : ℕ) → length l ≡ n → mapped n ≡ map f l
   mapped-all n h = rw (take-all n l (omega arith), drop-of-length-le l {i = n} (omega arith)) (append-nil (map f l))
 
   -- the first n of an array whose first n are mapped, or all where n passes its end

@@ -1,7 +1,7 @@
 -- Laws of the station's views, and of what setup does not refuse.
 -- Assumes nothing.
 use Prim.Native.Nat.{ℕ, _≤_, _<_}
-use mathlib.Core.Path.{_≡_, refl, sym, ap, _∙_}
+use mathlib.Core.Path.{_≡_, refl, ap, _∙_}
 use mathlib.Core.Bool.{Bool, true, false}
 use mathlib.Core.List.{List, [], _∷_, _++_, map}
 use mathlib.Core.Option.{none, some}
@@ -12,12 +12,11 @@ use borrow.Author.Tests.{ltb-false, eqb-true, eqb-false, eq-eqb, ne-eqb}
 use native.Mathlib.Omega.{arith}
 use Rattle.laws.specs.Choice.{if_then_else_}
 use Rattle.laws.proofs.Choice.{either}
-use Rattle.laws.proofs.Arrays.{map-take}
 use Rattle.octets.specs.Refusals.{requesterList, identity}
 use Rattle.events.specs.declared.Entry.{Entry}
 use Rattle.events.specs.declared.Log.{Log}
 use Rattle.requesters.specs.declared.Requester.{Requester as Code·Requester}
-use Rattle.model.specs.Model.{Address, Requester}
+use Rattle.model.specs.Model.{Address}
 use Rattle.model.specs.Model.{Station, accepted}
 use Rattle.identities.specs.Identity.{stands, passRow, goodFrom, goodIdentity}
 use Rattle.model.specs.Requesters.{badList, newRequester}
@@ -27,15 +26,6 @@ use Rattle.station.specs.Calls.{renameCause}
 use Rattle.station.specs.Views.{view}
 use Rattle.model.specs.Stations.{result, refusedFor, nobody, newStation, setup, renameWith, rename}
 use Rattle.events.specs.Log.{logged}
-
--- what is done to every requester of an array is done to those of the station
-pub views-within : (f : Requester → Requester) (n : ℕ) (xs ys : List Code·Requester) → map viewRequester ys ≡ map f (map viewRequester xs)
-    → map viewRequester (take n ys) ≡ map f (map viewRequester (take n xs))
-views-within f n xs ys e =
-    map-take viewRequester n ys
-    ∙ ap (take n) e
-    ∙ sym (map-take f n (map viewRequester xs))
-    ∙ ap (map f) (sym (map-take viewRequester n xs))
 
 -- a list that is not refused has at most four addresses
 pub good-length : (l : List Address) → badList l ≡ false → length l ≤ 4
