@@ -6,12 +6,13 @@ use crate::Step;
 use crate::calls::kind_of;
 use octets::Kind;
 use report_reader::Cursor;
+use report_reader::Element;
 use report_reader::read_report;
 use request_writer::Written;
 use request_writer::write_request;
 ghost use mathlib.Core.Path.{_≡_};
 ghost use Rattle.request_writer.specs.Writer.{writeRequest};
-ghost use Rattle.report_reader.specs.Reader.{stepAt, readReport};
+ghost use Rattle.report_reader.specs.Reader.{foundStep, stepAt, readReport};
 ghost use Rattle.firmware.specs.Numbers.{kindOf, numberOf, replyWritten, write, numberedWrite, numberedReport, numberedStep};
 
 // The number of a kind.
@@ -69,7 +70,22 @@ pub extern "C" fn dultxibe_read_report(destination: &[u8; 6], s: &[u8]) -> Repor
     }
 }
 
-// What stands at a position of a report frame of a kind; the first element stands at 3.
+// An element that was found.
+fn found_step(element: Element, rest: usize, next: usize) -> Step
+    ensures { λ r. ⌜ r ≡ numberedStep (foundStep element rest next) ⌝ }
+{
+    Step {
+        number: 0,
+        found: true,
+        place: 0,
+        rest,
+        next,
+        element,
+    }
+}
+
+// What stands at a position of a report frame of a kind; the first element stands at 3. One with a
+// transition has a return of its own, for speed: its octets are then moved by wide copies.
 #[no_mangle]
 pub extern "C" fn dultxibe_next_element(kind: u8, at: usize, s: &[u8]) -> Step
     ensures { λ r. ⌜ r ≡ numberedStep (stepAt (now (s .entry)) (kindOf kind) at) ⌝ }
@@ -77,6 +93,9 @@ pub extern "C" fn dultxibe_next_element(kind: u8, at: usize, s: &[u8]) -> Step
     let cursor = Cursor { at };
     let step = cursor.next(s, kind_of(kind));
     let element = step.element;
+    if element.logged {
+        return found_step(element, step.rest, step.next.at);
+    }
     Step {
         number: step.refusal.number,
         found: step.found,

@@ -2,11 +2,10 @@
 -- Assumes nothing.
 use Prim.Native.Nat.{ℕ, suc, _+_, _-_, _≤_, _<_}
 use mathlib.Core.Path.{_≡_, refl, sym, ap, _∙_}
-use mathlib.Core.Bool.{Bool, true, false, not}
+use mathlib.Core.Bool.{true, false}
 use mathlib.Core.List.{List, [], _∷_, _++_, map, map-append, append-assoc, append-nil}
 use lib.ListN.{length, getD, take, drop, length-append, length-drop, length-map, List·getD-append}
 use lib.Seq.{take-all, take-at, take-append-le, drop-append-le, drop-drop}
-use lib.Dec.{eqb}
 use borrow.Author.Tests.{le-ltb, le-leb, ne-eqb, eq-eqb}
 use native.Mathlib.Omega.{arith}
 use Rattle.laws.specs.Choice.{if_then_else_}
@@ -32,9 +31,9 @@ use Rattle.events.specs.declared.Transition.{Transition}
 use Rattle.events.specs.Log.{bodyOf, entryOf}
 use Rattle.reports.specs.Reports.{reportElement}
 use Rattle.report_reader.specs.declared.Event.{Event as Fields}
-use Rattle.report_reader.specs.Reader.{part, eventAt, plainElement, loggedElement, foundStep, plainStep, loggedStep, bareStep, transitionStep, eventStep, walkedStep, diagnosticStep, ownStep, stepAt, reportOf, judgedReport, readReport, reading, gathered, unread, readStep, readElements}
+use Rattle.report_reader.specs.Reader.{part, eventAt, plainElement, loggedElement, foundStep, plainStep, loggedStep, transitionStep, eventStep, walkedStep, diagnosticStep, ownStep, stepAt, reportOf, judgedReport, readReport, reading, gathered, unread, readStep, readElements}
 use Rattle.report_reader.specs.Sent.{Sent, sentOctets, sentFrame, EventSent, plain, logged, kept, DiagnosticSent, listed, Piece, subelements, fieldsOf, transitionEvent}
-use Rattle.report_reader.proofs.Laws.{agrees}
+use Rattle.report_reader.proofs.Laws.{short-event, agrees}
 
 -- ---- subelements that are walked for their edges
 
@@ -147,15 +146,6 @@ module _ (s : List ℕ) (at : ℕ) (o r : List ℕ) (h : drop at s ≡ o ++ r) w
 -- ---- event reports
 
 module _ (s : List ℕ) (at : ℕ) where
-  plain-event : eventStep s at 3 ≡ plainStep s at 3 0
-  unfolding eventStep bareStep transitionStep if_then_else_
-  plain-event = go (eqb (getD s (at + 4) 0) 0) (eqb (getD s (at + 3) 0) 0)
-    where
-      go : (a b : Bool) → (if not a then plainStep s at 3 0 else if b then plainStep s at 3 0 else plainStep s at 3 0) ≡ plainStep s at 3 0
-      go true true = refl
-      go true false = refl
-      go false b = refl
-
   kept-event : (n : ℕ) → getD s (at + 4) 0 ≡ 0 → (getD s (at + 3) 0 ≡ 0 → ⊥) → eventStep s at n ≡ plainStep s at n 0
   unfolding eventStep if_then_else_
   kept-event n e other = rw (e, ne-eqb (getD s (at + 3) 0) 0 other)
@@ -180,7 +170,7 @@ module _ (s : List ℕ) (at : ℕ) (r : List ℕ) where
   event-back : (i : Sent) → EventSent i → drop at s ≡ sentOctets Event i ++ r → stepAt s Event at ≡ foundStep (i .fields) (at + 5) (at + length (sentOctets Event i))
   unfolding bodyLength
   event-back i (plain {token = token} {ty = ty} {status = status} few) h =
-      own-there s Event at i r h ∙ own-event s at 3 (omega arith) (omega (arith, status-there s Event at i r h)) ∙ plain-event s at ∙ plain-there s Event at i r h 0
+      own-there s Event at i r h ∙ own-event s at 3 (omega arith) (omega (arith, status-there s Event at i r h)) ∙ short-event s at refl ∙ plain-there s Event at i r h 0
   event-back i (logged {token = token} time body lt lb good) h =
       let t : part s (at + 5) 9 ≡ time = ap (take 9) (rest-there s Event at i r h ∙ append-assoc time body r) ∙ take-at time (body ++ r) 9 lt in
       let l : bodyLength i ≡ 33 = omega (arith, length-append time body) in

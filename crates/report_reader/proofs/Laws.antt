@@ -1,4 +1,4 @@
--- Laws of the reader: a step that is not refused moves on, and not past the end; its verdict says the rest of it; the judgement agrees with the cursor's walk.
+-- Laws of the reader: a step that is not refused moves on, and not past the end; its verdict says the rest of it; where a transition stands, an element was found; the judgement agrees with the cursor's walk.
 -- Assumes nothing.
 use Prim.Native.Nat.{ℕ, _+_, _-_, _≤_, _<_}
 use mathlib.Core.Path.{_≡_, refl}
@@ -21,8 +21,23 @@ use Rattle.subelements.specs.Subelements.{walk}
 use Rattle.report_reader.specs.declared.Step.{Step}
 use Rattle.report_reader.specs.declared.Verdict.{Verdict}
 use Rattle.report_reader.specs.declared.Walk.{Walk}
-use Rattle.report_reader.specs.Reader.{refusedStep, skippedStep, plainStep, loggedStep, bareStep, transitionStep, eventStep, walkedStep, diagnosticStep, kindStep, ownStep, stepAt, atWalk, advanced, more, judgeStep, judge, Reading, reading, gathered, unread, readStep, readElements, viewed}
+use Rattle.report_reader.specs.Reader.{refusedStep, skippedStep, foundStep, plainStep, loggedStep, bareStep, transitionStep, eventStep, walkedStep, diagnosticStep, kindStep, ownStep, stepAt, atWalk, advanced, more, judgeStep, judge, Reading, reading, gathered, unread, readStep, readElements, viewed}
 use Rattle.report_reader.specs.Verdicts.{verdictOf, transitionAt, elementAt, Fits, stepOf}
+
+-- ---- an event report of length 3 is plain
+
+module _ (s : List ℕ) (at : ℕ) where
+  plain-event : eventStep s at 3 ≡ plainStep s at 3 0
+  unfolding eventStep bareStep transitionStep if_then_else_
+  plain-event = go (eqb (getD s (at + 4) 0) 0) (eqb (getD s (at + 3) 0) 0)
+    where
+      go : (a b : Bool) → (if not a then plainStep s at 3 0 else if b then plainStep s at 3 0 else plainStep s at 3 0) ≡ plainStep s at 3 0
+      go true true = refl
+      go true false = refl
+      go false b = refl
+
+  pub short-event : {n : ℕ} → n ≡ 3 → eventStep s at n ≡ plainStep s at n 0
+  short-event e = rw e plain-event
 
 -- ---- a step is one of four: refused, passed over, with no transition, or with one
 
@@ -118,6 +133,18 @@ module _ (s : List ℕ) (kind : Kind) (at : ℕ) where
 
   pub step-fits : {v : Verdict} → v ≡ verdictOf (stepAt s kind at) → v .found ≡ true → Fits s at v
   step-fits e f = rw e (stands-fits s at (stands s kind at) (rw e at f))
+
+-- ---- where a transition stands, an element was found
+
+stands-found : (s : List ℕ) (at : ℕ) {t : Step} → Stands s at t → t .element .logged ≡ true → t ≡ foundStep (t .element) (t .rest) (t .next .at)
+unfolding plainStep loggedStep
+stands-found s at (is-refused n p h) e = never e
+stands-found s at (is-skipped n on within) e = never e
+stands-found s at (is-plain n subs few h) e = refl
+stands-found s at (is-logged h) e = refl
+
+pub logged-found : (s : List ℕ) (kind : Kind) (at : ℕ) (t : Step) → t ≡ stepAt s kind at → t .element .logged ≡ true → t ≡ foundStep (t .element) (t .rest) (t .next .at)
+logged-found s kind at t e = rw e (stands-found s at (stands s kind at))
 
 -- ---- the judgement's step moves on too, and its position bounds its count
 

@@ -19,7 +19,7 @@ ghost use mathlib.Core.List.{List};
 ghost use Prim.Native.Nat.{ℕ, _+_, _^_, _≤_, _<_};
 ghost use lib.ListN.{length};
 ghost use Rattle.report_reader.specs.declared.Step.{Step};
-ghost use Rattle.report_reader.specs.Reader.{part, noEvent, eventAt, refusedStep, skippedStep, plainStep, loggedStep, bareStep, transitionStep, eventStep, walkedStep, diagnosticStep, ownStep, stepAt, atWalk, advanced, refusedReport, reportOf, judgedReport, readReport};
+ghost use Rattle.report_reader.specs.Reader.{part, noEvent, eventAt, refusedStep, skippedStep, plainStep, loggedStep, transitionStep, eventStep, walkedStep, diagnosticStep, ownStep, stepAt, atWalk, advanced, refusedReport, reportOf, judgedReport, readReport};
 ghost use Rattle.report_reader.specs.Reader.{judge as Reader·judge};
 ghost use Rattle.report_reader.specs.Verdicts.{verdictOf, transitionAt, elementAt, Fits, stepOf};
 
@@ -178,17 +178,16 @@ fn skipped(next: usize) -> Verdict
     }
 }
 
-// An element with n octets of body; the verdict is the same whatever they are.
-fn plain(at: usize, n: usize, subs: usize) -> Verdict
-    requires { ⌜ at + 2 + n < 2 ^ 64 ⌝ }
-    ensures { λ r. ⌜ ((s : List ℕ) → r ≡ verdictOf (plainStep s at n subs)) ⌝ }
+// An element with no transition; the verdict is the same whatever its octets are.
+fn plain(next: usize, subs: usize) -> Verdict
+    ensures { λ r. ⌜ ((s : List ℕ) (at n : ℕ) → next ≡ at + 2 + n → r ≡ verdictOf (plainStep s at n subs)) ⌝ }
 {
     Verdict {
         refusal: Refusal::none(),
         found: true,
         logged: false,
         subs,
-        next: at + 2 + n,
+        next,
     }
 }
 
@@ -206,25 +205,11 @@ fn logged(at: usize) -> Verdict
     }
 }
 
-// An event report that is not Successful has nothing more.
-fn judge_bare(at: usize, n: usize) -> Verdict
-    requires { ⌜ at + 2 + n < 2 ^ 64 ⌝ }
-    ensures { λ r. ⌜ ((s : List ℕ) → r ≡ verdictOf (bareStep s at n)) ⌝ }
-{
-    if n == 3 {
-        return plain(at, n, 0);
-    }
-    refused(causes::REPORT_BODY, at)
-}
-
-// A Successful report of event type 0.
+// A Successful report of event type 0, not of length 3.
 fn judge_transition(s: &[u8], at: usize, n: usize) -> Verdict
-    requires { ⌜ at + 2 + n ≤ length (now s) ⌝ }
+    requires { ⌜ (n ≡ 3 → ⊥) × (at + 2 + n ≤ length (now s)) ⌝ }
     ensures { λ r. ⌜ r ≡ verdictOf (transitionStep (now (s .entry)) at n) ⌝ }
 {
-    if n == 3 {
-        return plain(at, n, 0);
-    }
     if n != 33 {
         return refused(causes::REPORT_BODY, at);
     }
@@ -234,40 +219,43 @@ fn judge_transition(s: &[u8], at: usize, n: usize) -> Verdict
     logged(at)
 }
 
-fn judge_event(s: &[u8], at: usize, n: usize) -> Verdict
-    requires { ⌜ (3 ≤ n) × (at + 2 + n ≤ length (now s)) ⌝ }
+// An event report; one of length 3 has nothing more, whatever its status and type.
+fn judge_event(s: &[u8], at: usize, n: usize, end: usize) -> Verdict
+    requires { ⌜ (3 ≤ n) × (end ≡ at + 2 + n) × (end ≤ length (now s)) ⌝ }
     ensures { λ r. ⌜ r ≡ verdictOf (eventStep (now (s .entry)) at n) ⌝ }
 {
+    if n == 3 {
+        return plain(end, 0);
+    }
     if s[at + 4] != numbers::SUCCESSFUL {
-        return judge_bare(at, n);
+        return refused(causes::REPORT_BODY, at);
     }
     let ty = s[at + 3];
     match ty {
         0 => judge_transition(s, at, n),
-        1..=255 => plain(at, n, 0),
+        1..=255 => plain(end, 0),
     }
 }
 
-fn judge_walked(at: usize, n: usize, w: Subelements) -> Verdict
-    requires { ⌜ at + 2 + n < 2 ^ 64 ⌝ }
-    ensures { λ r. ⌜ ((s : List ℕ) → r ≡ verdictOf (walkedStep s at n w)) ⌝ }
+fn judge_walked(end: usize, w: Subelements) -> Verdict
+    ensures { λ r. ⌜ ((s : List ℕ) (at n : ℕ) → end ≡ at + 2 + n → r ≡ verdictOf (walkedStep s at n w)) ⌝ }
 {
     if w.refusal.number != 0 {
         return refused(w.refusal.number, w.refusal.place);
     }
-    plain(at, n, w.count)
+    plain(end, w.count)
 }
 
-fn judge_diagnostic(s: &[u8], at: usize, n: usize) -> Verdict
-    requires { ⌜ (3 ≤ n) × (at + 2 + n ≤ length (now s)) ⌝ }
-    ensures { λ r. ⌜ r ≡ verdictOf (diagnosticStep (now (s .entry)) at n) ⌝ }
+fn judge_diagnostic(s: &[u8], at: usize, end: usize) -> Verdict
+    requires { ⌜ (at + 5 ≤ end) × (end ≤ length (now s)) ⌝ }
+    ensures { λ r. ⌜ ((n : ℕ) → end ≡ at + 2 + n → r ≡ verdictOf (diagnosticStep (now (s .entry)) at n)) ⌝ }
 {
-    judge_walked(at, n, walk_edges(s, at + 5, at + 2 + n))
+    judge_walked(end, walk_edges(s, at + 5, end))
 }
 
-// An element of the frame's own ID, with n octets of body.
-fn judge_own(s: &[u8], kind: Kind, at: usize, n: usize) -> Verdict
-    requires { ⌜ at + 2 + n ≤ length (now s) ⌝ }
+// An element of the frame's own ID, with n octets of body up to its end.
+fn judge_own(s: &[u8], kind: Kind, at: usize, n: usize, end: usize) -> Verdict
+    requires { ⌜ (end ≡ at + 2 + n) × (end ≤ length (now s)) ⌝ }
     ensures { λ r. ⌜ r ≡ verdictOf (ownStep (now (s .entry)) kind at n) ⌝ }
 {
     if n < 3 {
@@ -277,8 +265,8 @@ fn judge_own(s: &[u8], kind: Kind, at: usize, n: usize) -> Verdict
         return refused(causes::REPORT_BODY, at);
     }
     match kind {
-        Kind::Event => judge_event(s, at, n),
-        Kind::Diagnostic => judge_diagnostic(s, at, n),
+        Kind::Event => judge_event(s, at, n, end),
+        Kind::Diagnostic => judge_diagnostic(s, at, end),
     }
 }
 
@@ -293,7 +281,7 @@ fn judge_at(s: &[u8], kind: Kind, at: usize) -> Verdict
     if octet(s, at) != kind.report_id() {
         return skipped(end);
     }
-    judge_own(s, kind, at, size(s, at + 1))
+    judge_own(s, kind, at, size(s, at + 1), end)
 }
 
 // ---- its step, by the verdict

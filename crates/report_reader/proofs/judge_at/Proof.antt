@@ -48,7 +48,7 @@ judge-own-requires : tie.Need-judge-own-requires
 judge-own-requires c κs =
     let a = c .before .before .before .before .before .before .before .args in
     let e = piece-ends (a .s .now) (a .at) (length (a .s .now)) (λ z. c .before .before .before .before .if1 .left (c .before .before .before .before .before .piece-end .ensures ∙ z)) in
-    omega (arith, c .size .ensures .0, e .is, e .within)
+    (omega (arith, c .size .ensures .0, e .is), omega (arith, c .before .before .before .before .before .piece-end .ensures, e .within))
 
 returns-3 : tie.Need-returns-3
 unfolding stepAt if_then_else_

@@ -8,12 +8,6 @@ use Rattle.report_reader.proofs.judge_diagnostic.Tie as tie
 add-walk-edges : tie.Need-add-walk-edges
 add-walk-edges c = search needs
 
-add-walk-edges-2 : tie.Need-add-walk-edges-2
-add-walk-edges-2 c = search needs
-
-add-walk-edges-3 : tie.Need-add-walk-edges-3
-add-walk-edges-3 c = search needs
-
 walk-edges-requires : tie.Need-walk-edges-requires
 walk-edges-requires c κs = search needs
 
@@ -22,15 +16,15 @@ judge-walked-requires c κs = search needs
 
 returns : tie.Need-returns
 unfolding diagnosticStep
-returns c = rw (← c .before .walk-edges .ensures) (c .judge-walked .ensures (c .before .before .before .args .s .now))
+returns c n e =
+    let a = c .before .before .before .args in
+    rw (← e, ← c .before .walk-edges .ensures) (c .judge-walked .ensures (a .s .now) (a .at) n e)
 
 pub judge-diagnostic-spec : {M : Type 1} → statement M
 judge-diagnostic-spec =
     tie.close
     (tie.spec
     add-walk-edges
-    add-walk-edges-2
-    add-walk-edges-3
     walk-edges-requires
     judge-walked-requires
     returns)

@@ -1,24 +1,34 @@
--- `report_reader::judge_event` meets its contract: by status, then by the type number.
+-- `report_reader::judge_event` meets its contract: by length, status and type number.
 -- Assumes nothing.
+use native.Mathlib.Omega.{arith}
 use borrow.Author.Tests.{eq-eqb, ne-eqb}
 use Rattle.laws.specs.Choice.{if_then_else_}
-use Rattle.report_reader.specs.Reader.{eventStep}
+use Rattle.report_reader.specs.Reader.{bareStep, eventStep}
+use Rattle.report_reader.proofs.Laws.{short-event}
 use borrow.Author.Needs.{needs}
 use Rattle.report_reader.proofs.judge_event.Statement.{statement}
 use Rattle.report_reader.proofs.judge_event.Tie as tie
 
-add-if1 : tie.Need-add-if1
-add-if1 c = search needs
-
-shared-slice-read-if1 : tie.Need-shared-slice-read-if1
-shared-slice-read-if1 c = search needs
-
-judge-bare-requires : tie.Need-judge-bare-requires
-judge-bare-requires c κs = search needs
+plain-requires : tie.Need-plain-requires
+plain-requires c κs = search needs
 
 returns : tie.Need-returns
-unfolding eventStep if_then_else_
-returns c = rw (ne-eqb _ 0 (c .before .if1 .taken)) (c .judge-bare .ensures (c .before .before .before .before .args .s .now))
+returns c =
+    let a = c .before .before .before .args in
+    rw (short-event (a .s .now) (a .at) (c .before .if1 .taken)) (c .plain .ensures (a .s .now) (a .at) (a .n) (c .before .before .before .pre .1))
+
+add-if2 : tie.Need-add-if2
+add-if2 c = search needs
+
+shared-slice-read-if2 : tie.Need-shared-slice-read-if2
+shared-slice-read-if2 c = search needs
+
+refused-requires : tie.Need-refused-requires
+refused-requires c κs = search needs
+
+returns-2 : tie.Need-returns-2
+unfolding eventStep bareStep if_then_else_
+returns-2 c = rw (ne-eqb _ 0 (c .before .if2 .taken), ne-eqb _ 3 (c .before .before .before .if1 .left)) (c .refused .ensures)
 
 add-ty : tie.Need-add-ty
 add-ty c = search needs
@@ -27,30 +37,34 @@ shared-slice-read-ty : tie.Need-shared-slice-read-ty
 shared-slice-read-ty c = search needs
 
 judge-transition-requires : tie.Need-judge-transition-requires
-judge-transition-requires c κs = search needs
+judge-transition-requires c κs = (c .before .before .before .before .if1 .left, omega (arith, c .before .before .before .before .before .before .pre))
 
-plain-requires : tie.Need-plain-requires
-plain-requires c κs = search needs
-
-returns-2 : tie.Need-returns-2
-unfolding eventStep if_then_else_
-returns-2 c = rw (eq-eqb _ 0 (c .before .before .before .if1 .left), eq-eqb _ 0 (c .before .match .keys1)) (c .judge-transition .ensures)
+plain-requires-2 : tie.Need-plain-requires-2
+plain-requires-2 c κs = search needs
 
 returns-3 : tie.Need-returns-3
 unfolding eventStep if_then_else_
-returns-3 c = rw (eq-eqb _ 0 (c .before .before .before .if1 .left), ne-eqb _ 0 (c .before .match .rest .1)) (c .plain .ensures (c .before .before .before .before .before .before .args .s .now))
+returns-3 c = rw (eq-eqb _ 0 (c .before .before .before .if2 .left), eq-eqb _ 0 (c .before .match .keys1)) (c .judge-transition .ensures)
+
+returns-4 : tie.Need-returns-4
+unfolding eventStep if_then_else_
+returns-4 c =
+    let a = c .before .before .before .before .before .before .before .args in
+    rw (eq-eqb _ 0 (c .before .before .before .if2 .left), ne-eqb _ 0 (c .before .match .rest .1)) (c .plain2 .ensures (a .s .now) (a .at) (a .n) (c .before .before .before .before .before .before .before .pre .1))
 
 pub judge-event-spec : {M : Type 1} → statement M
 judge-event-spec =
     tie.close
     (tie.spec
-    add-if1
-    shared-slice-read-if1
-    judge-bare-requires
+    plain-requires
     returns
+    add-if2
+    shared-slice-read-if2
+    refused-requires
+    returns-2
     add-ty
     shared-slice-read-ty
     judge-transition-requires
-    plain-requires
-    returns-2
-    returns-3)
+    plain-requires-2
+    returns-3
+    returns-4)

@@ -45,7 +45,7 @@ returns-3 c = rw (le-ltb _ 3 (c .before .before .before .before .before .if1 .le
 
 returns-4 : tie.Need-returns-4
 unfolding ownStep if_then_else_
-returns-4 c = rw (le-ltb _ 3 (c .before .before .before .before .before .if1 .left), le-ltb 4 _ (c .before .before .before .if2 .left), c .before .enum-told2 .given .1) (c .judge-diagnostic .ensures)
+returns-4 c = rw (le-ltb _ 3 (c .before .before .before .before .before .if1 .left), le-ltb 4 _ (c .before .before .before .if2 .left), c .before .enum-told2 .given .1) (c .judge-diagnostic .ensures (c .before .before .before .before .before .before .before .args .n) (c .before .before .before .before .before .before .before .pre .0))
 
 pub judge-own-spec : {M : Type 1} → statement M
 judge-own-spec =

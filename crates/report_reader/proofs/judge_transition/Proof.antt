@@ -7,19 +7,12 @@ use borrow.Author.Needs.{needs}
 use Rattle.report_reader.proofs.judge_transition.Statement.{statement}
 use Rattle.report_reader.proofs.judge_transition.Tie as tie
 
-plain-requires : tie.Need-plain-requires
-plain-requires c κs = search needs
-
-returns : tie.Need-returns
-unfolding transitionStep if_then_else_
-returns c = rw (eq-eqb _ 3 (c .before .if1 .taken)) (c .plain .ensures (c .before .before .before .args .s .now))
-
 refused-requires : tie.Need-refused-requires
 refused-requires c κs = search needs
 
-returns-2 : tie.Need-returns-2
+returns : tie.Need-returns
 unfolding transitionStep if_then_else_
-returns-2 c = rw (ne-eqb _ 3 (c .before .before .if1 .left), ne-eqb _ 33 (c .before .if2 .taken)) (c .refused .ensures)
+returns c = rw (ne-eqb _ 3 (c .before .before .before .pre .0), ne-eqb _ 33 (c .before .if1 .taken)) (c .refused .ensures)
 
 add-time-at : tie.Need-add-time-at
 add-time-at c = search needs
@@ -33,31 +26,29 @@ good-time-requires c κs = search needs
 refused-requires-2 : tie.Need-refused-requires-2
 refused-requires-2 c κs = search needs
 
-returns-3 : tie.Need-returns-3
+returns-2 : tie.Need-returns-2
 unfolding transitionStep if_then_else_
-returns-3 c =
-    rw (ne-eqb _ 3 (c .before .before .before .before .before .if1 .left), eq-eqb _ 33 (c .before .before .before .before .if2 .left), ← c .before .before .before .time-at .ensures, ← c .before .before .good-time .ensures, c .before .if3 .taken) (c .refused2 .ensures)
+returns-2 c =
+    rw (ne-eqb _ 3 (c .before .before .before .before .before .before .pre .0), eq-eqb _ 33 (c .before .before .before .before .if1 .left), ← c .before .before .before .time-at .ensures, ← c .before .before .good-time .ensures, c .before .if2 .taken) (c .refused2 .ensures)
 
 logged-requires : tie.Need-logged-requires
 logged-requires c κs = search needs
 
-returns-4 : tie.Need-returns-4
+returns-3 : tie.Need-returns-3
 unfolding transitionStep if_then_else_
-returns-4 c =
-    rw (ne-eqb _ 3 (c .before .before .before .before .before .if1 .left), eq-eqb _ 33 (c .before .before .before .before .if2 .left), ← c .before .before .before .time-at .ensures, ← c .before .before .good-time .ensures, c .before .if3 .left) (c .logged .ensures (c .before .before .before .before .before .before .before .args .s .now))
+returns-3 c =
+    rw (ne-eqb _ 3 (c .before .before .before .before .before .before .pre .0), eq-eqb _ 33 (c .before .before .before .before .if1 .left), ← c .before .before .before .time-at .ensures, ← c .before .before .good-time .ensures, c .before .if2 .left) (c .logged .ensures (c .before .before .before .before .before .before .args .s .now))
 
 pub judge-transition-spec : {M : Type 1} → statement M
 judge-transition-spec =
     tie.close
     (tie.spec
-    plain-requires
-    returns
     refused-requires
-    returns-2
+    returns
     add-time-at
     time-at-requires
     good-time-requires
     refused-requires-2
-    returns-3
+    returns-2
     logged-requires
-    returns-4)
+    returns-3)

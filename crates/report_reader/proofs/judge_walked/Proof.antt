@@ -12,14 +12,14 @@ refused-requires c κs = search needs
 
 returns : tie.Need-returns
 unfolding walkedStep if_then_else_
-returns c s = rw (ne-eqb _ 0 (c .before .if1 .taken)) (c .refused .ensures)
+returns c s at n e = rw (ne-eqb _ 0 (c .before .if1 .taken)) (c .refused .ensures)
 
 plain-requires : tie.Need-plain-requires
 plain-requires c κs = search needs
 
 returns-2 : tie.Need-returns-2
 unfolding walkedStep if_then_else_
-returns-2 c s = rw (eq-eqb _ 0 (c .before .if1 .left)) (c .plain .ensures s)
+returns-2 c s at n e = rw (eq-eqb _ 0 (c .before .if1 .left)) (c .plain .ensures s at n e)
 
 pub judge-walked-spec : {M : Type 1} → statement M
 judge-walked-spec = tie.close (tie.spec refused-requires returns plain-requires returns-2)

@@ -9,15 +9,9 @@ use Rattle.report_reader.proofs.plain.Tie as tie
 none-requires : tie.Need-none-requires
 none-requires c κs = search needs
 
-add-t5 : tie.Need-add-t5
-add-t5 c = search needs
-
-add-t6 : tie.Need-add-t6
-add-t6 c = search needs
-
 returns : tie.Need-returns
 unfolding verdictOf plainStep
-returns c s = rw (c .none .ensures)
+returns c s at n e = rw (c .none .ensures, e)
 
 pub plain-spec : {M : Type 1} → statement M
-plain-spec = tie.close (tie.spec none-requires add-t5 add-t6 returns)
+plain-spec = tie.close (tie.spec none-requires returns)
