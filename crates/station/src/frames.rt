@@ -57,8 +57,9 @@ fn answer_of(refusal: Refusal) -> Answer
 }
 
 // A request from a source to a destination, which its reader may have refused. A source that finds no
-// requester has the place behind the last. One way out for all answers, and of the requesters only
-// what changes is written: else the log and the requesters would be copied once more.
+// requester has the place behind the last. One way out for all answers; the requesters to search and
+// those to change are read apart, and only what changes is written: else the log and the requesters
+// would be copied once more.
 fn take_request(
     g: Station,
     reading: Milliseconds,
