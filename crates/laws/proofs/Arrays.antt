@@ -110,7 +110,10 @@ pub fill-mapped : {A B : Type 0} (f : A → B) (from : List A) (to : List B) (i 
 fill-mapped f from to i d y h k e q =
     rw (add-one, take-suc-set to i y k, take-suc from i d h, map-append f (take i from) (getD from i d ∷ []), e, q)
 
--- one more place of such an array, from the back
+-- the same from the back, where nothing is left behind the first n of n
+pub fill-none : {A : Type 0} (n : ℕ) (l : List A) → drop n (take n l) ≡ []
+fill-none n l = drop-of-length-le (take n l) {i = n} (omega (arith, length-take n l))
+
 pub fill-back : {A B : Type 0} (f : A → B) (from : List A) (to : List B) (end i : ℕ) (d : A) (y : B) → i < end → end ≤ length from → end ≤ length to
     → drop (i + 1) (take end to) ≡ map f (drop (i + 1) (take end from)) → y ≡ f (getD from i d)
     → drop i (take end (set to i y)) ≡ map f (drop i (take end from))

@@ -13,7 +13,7 @@ use Rattle.model.specs.Model.{Address, Requester, Station, Call, clock, 
 use Rattle.identities.specs.Identity.{goodIdentity}
 use Rattle.model.specs.Requesters.{badList, find}
 use Rattle.octets.specs.Refusals.{requesterList, identity}
-use Rattle.model.specs.Stations.{result, refusedFor, newStation, nobody, setup, tick, logEntry, logCall, Served, withRequester, serveFound, serveListed, frameCall, reportCall, renameWith, rename, act, readingOf, step}
+use Rattle.model.specs.Stations.{result, refusedFor, newStation, nobody, setup, tick, logEntry, logCall, Served, withRequester, serveFound, serveListed, requestCall, frameCall, reportCall, renameWith, rename, act, readingOf, step}
 use Rattle.model.specs.Runs.{run, sender, reply, toSender}
 use Rattle.model.specs.Independence.{quiet, Origin, from, longer, isAccepted, since, freshReply, answers, freshAnswers, Independent, origin, IndependentCall}
 use Rattle.model.proofs.Seen.{seen, stepSeen, stepReply, seen-step, quiet-step, seen-reply}
@@ -38,7 +38,7 @@ unfolding rename
 rename-identity log l g = either (Same g) _ _ _ (λ _. refl) (λ _. renamed-identity log l g (g .identity) refl)
 
 act-identity : (c : Call) (g : Station) → Same g (act c g)
-unfolding act logCall logEntry frameCall reportCall serveListed
+unfolding act logCall logEntry requestCall frameCall reportCall serveListed
 act-identity (clock t) g = refl
 act-identity (logging t e) g = either (Same g) _ _ _ (λ _. refl) (λ _. refl)
 act-identity (frame t d a o) g = either (Same g) _ _ _ (λ _. refl) (λ _. found-identity a _ _ g (find a (g .requesters)))

@@ -21,7 +21,7 @@ use Rattle.model.specs.Model.{Address, Requester, Station, Call, clock, 
 use Rattle.requests.specs.Requests.{readRequest}
 use Rattle.events.specs.Log.{capacity, pushed, entryOf}
 use Rattle.model.specs.Requesters.{badList, newRequester, find, put}
-use Rattle.model.specs.Stations.{refusedFor, tickRequester, tick, lowerRequester, logRequester, logEntry, logCall, Served, withRequester, serveFound, serveListed, takeKind, takeRequest, frameCall, giveEvents, giveDiagnostics, ifOutstanding, octetsOf, giveKind, giveReport, reportCall, renameWith, rename, act, readingOf, step}
+use Rattle.model.specs.Stations.{refusedFor, tickRequester, tick, lowerRequester, logRequester, logEntry, logCall, Served, withRequester, serveFound, serveListed, takeKind, takeRequest, requestCall, frameCall, giveEvents, giveDiagnostics, ifOutstanding, octetsOf, giveKind, giveReport, reportCall, renameWith, rename, act, readingOf, step}
 use Rattle.model.specs.Runs.{sender, Reply, reply, toSender}
 use Rattle.laws.proofs.Choice.{apply-if}
 use Rattle.octets.proofs.AddressLaws.{same-sym}
@@ -202,7 +202,7 @@ seen-rename s log l g =
     ∙ ap (λ (v : Seen). if badList l then seen s g else v) (seen-renamed s log l g (g .identity))
 
 seen-act : (s : Address) (c : Call) (g : Station) → seen s (act c g .station) ≡ actSeen s c (seen s g)
-unfolding act actSeen seen frameCall reportCall
+unfolding act actSeen seen requestCall frameCall reportCall
 seen-act s (clock t) g = refl
 seen-act s (logging t e) g = seen-log s t e g
 seen-act s (frame t d a o) g =
@@ -283,7 +283,7 @@ reply-found a serve b g (some r) = refl
 
 module _ (t : ℕ) (a : Address) where
   frame-reply : (d : Address) (o : List ℕ) (g : Station) → replyOf (act (frame t d a o) g) ≡ seenReply (frame t d a o) (seen a g)
-  unfolding act frameCall serveListed seenReply seen
+  unfolding act requestCall frameCall serveListed seenReply seen
   frame-reply d o g =
       apply-if replyOf (isGroup d) _ _
       ∙ ap (λ (x : Reply). if isGroup d then record { answer = refusedFor groupDestination; buffer = [] } else x)

@@ -29,7 +29,7 @@ requestOf kind dialog w =
     else if lacksElement kind (w .count) then refusedRequest noElement 0
     else record { refusal = noRefusal; kind = kind; dialog = dialog; count = w .count; elements = w .elements }
 
--- the kind of a frame by its action: any other action than a diagnostic's is refused where it is not an event's
+-- the kind that a frame is read as, by its action: a diagnostic's has its own; any other is held to the event's, by headerCause
 unfoldable pub kindOf : List ℕ → Kind
 kindOf s = if eqb (getD s 1 0) (requestAction Diagnostic) then Diagnostic else Event
 

@@ -25,17 +25,19 @@ unfoldable pub place : Address → List Requester → ℕ
 place a [] = 0
 place a (r ∷ rs) = if same a (r .address) then 0 else suc (place a rs)
 
--- whether an accepted frame of a kind changes the event request, which is outstanding by a test, with its dialog token: an equal one
--- does not
+-- What an accepted frame of a kind leaves of a request, of which the code knows whether it is outstanding and its dialog token: a new
+-- one where it renews it, else the old one. proofs/DialogLaws.antt: by this it is the model's takeEvents and takeDiagnostics.
+
+-- "An accepted frame with the same token while outstanding changes nothing."
 unfoldable pub renewsEvents : Request → Bool → ℕ → Kind → Bool
 renewsEvents q outstanding current Event = not (outstanding && eqb (q .dialog) current)
 renewsEvents q outstanding current Kind·Diagnostic = false
 
--- the same of the diagnostic request: a Cancel "comes before the equal-token rule"
+-- a Cancel "comes before the equal-token rule"
 unfoldable pub renewsDiagnostics : Request → Bool → ℕ → Kind → Bool
 renewsDiagnostics q outstanding current Event = false
 renewsDiagnostics q outstanding current Kind·Diagnostic = holdsCancel (diagnosticsOf q) || not (outstanding && eqb (q .dialog) current)
 
--- what a frame that changes it leaves: none by a Cancel
+-- the new one: none by a Cancel (the new event request is the model's openEvents)
 unfoldable pub newDiagnostics : ℕ → Request → Option DiagnosticRequest
 newDiagnostics reading q = if holdsCancel (diagnosticsOf q) then none else unlessOver (q .dialog) reading (diagnosticsOf q)

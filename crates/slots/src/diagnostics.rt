@@ -10,9 +10,8 @@ use requests::Element;
 use requests::Request;
 use units::Milliseconds;
 ghost use mathlib.Core.Path.{_≡_};
-ghost use mathlib.Core.Bool.{not, _&&_, _||_};
+ghost use mathlib.Core.Bool.{_&&_};
 ghost use Prim.Native.Nat.{_≤_};
-ghost use lib.Dec.{eqb};
 ghost use mathlib.Core.Option.{none};
 ghost use Rattle.model.specs.Diagnostics.{isLate, onTime, unlessOver, dropLate, isCancel, holdsCancel, diagnosticOf, diagnosticsOf};
 ghost use Rattle.requesters.specs.Views.{left, viewDiagnostics};
@@ -160,7 +159,7 @@ pub fn no_diagnostics() -> DiagnosticRequest
 
 // Does a frame of diagnostics change what is outstanding: by a Cancel, or as no repetition?
 fn cancels_or_opens(q: Request, outstanding: bool, current: u8) -> bool
-    ensures { λ r. ⌜ r ≡ (holdsCancel (diagnosticsOf q) || not (outstanding && eqb (q .dialog) current)) ⌝ }
+    ensures { λ r. ⌜ r ≡ renewsDiagnostics q outstanding current Kind.Diagnostic ⌝ }
 {
     if asks_cancel(q) {
         return true;

@@ -21,9 +21,9 @@ ghost use mathlib.Core.List.{[]};
 ghost use lib.ListN.{length};
 ghost use Rattle.events.specs.Log.{logged as Log·logged};
 ghost use Rattle.model.specs.Model.{frame};
-ghost use Rattle.model.specs.Stations.{step};
+ghost use Rattle.model.specs.Stations.{requestCall, step};
 ghost use Rattle.requesters.specs.Views.{viewAnswer};
-ghost use Rattle.station.specs.Calls.{frameRefusal, frameAnswer, requestCall};
+ghost use Rattle.station.specs.Calls.{frameRefusal, frameAnswer};
 ghost use Rattle.station.specs.Views.{view, viewOutcome};
 
 // How many entries are logged.

@@ -1,12 +1,12 @@
 -- `slots::diagnostics::diagnostics_of` meets its contract. The invariant: the places from i on are those of the request.
 -- Assumes nothing.
-use Prim.Native.Nat.{ℕ, _+_, _≤_, _-_}
+use Prim.Native.Nat.{_+_, _≤_, _-_}
 use mathlib.Core.Path.{_≡_, refl, sym, ap, _∙_}
-use mathlib.Core.List.{List, [], map}
+use mathlib.Core.List.{map}
 use native.Mathlib.Omega.{arith}
-use lib.ListN.{length, take, drop, length-set, length-take, drop-of-length-le}
+use lib.ListN.{length, take, drop, length-set}
 use Rattle.model.specs.Diagnostics.{diagnosticOf, diagnosticsOf}
-use Rattle.laws.proofs.Arrays.{length-mapped, fill-back, mapped-within}
+use Rattle.laws.proofs.Arrays.{length-mapped, fill-none, fill-back, mapped-within}
 use Rattle.requests.specs.Elements.{pastElements}
 use borrow.Author.Needs.{needs}
 use Rattle.slots.proofs.diagnostics.diagnostics_of.Statement.{statement}
@@ -19,10 +19,6 @@ Inv-loop asked end elements₀ i₀ elements i =
 abbrev μ-loop : tie.MeasureT-loop
 μ-loop asked end elements₀ i₀ elements i = i
 
--- nothing is left behind the first n of n
-ended : {A : Type 0} (n : ℕ) (l : List A) → drop n (take n l) ≡ []
-ended n l = drop-of-length-le (take n l) {i = n} (omega (arith, length-take n l))
-
 least-requires : tie.Need-least-requires Inv-loop μ-loop
 least-requires c κs = search needs
 
@@ -31,7 +27,7 @@ loop-holds c =
     let asked = c .before .before .args .q .elements in
     let end = c .least .result in
     let eight : length asked ≡ 8 = search (needs, length-mapped) in
-    (omega arith, omega (arith, c .least .ensures), eight, search needs, ended end _ ∙ sym (ap (map diagnosticOf) (ended end asked)))
+    (omega arith, omega (arith, c .least .ensures), eight, search needs, fill-none end _ ∙ sym (ap (map diagnosticOf) (fill-none end asked)))
 
 sub-i : tie.Need-sub-i Inv-loop μ-loop
 sub-i c = omega arith

@@ -1,7 +1,7 @@
 -- `slots::diagnostics::renews_diagnostics` meets its contract.
 -- Assumes nothing.
+use mathlib.Core.Path.{sym, ap, _∙_}
 use borrow.Author.Tests.{not-true, not-false}
-use Rattle.model.specs.Diagnostics.{diagnosticsOf}
 use Rattle.slots.specs.Slots.{renewsDiagnostics}
 use borrow.Author.Needs.{needs}
 use Rattle.slots.proofs.diagnostics.renews_diagnostics.Statement.{statement}
@@ -24,8 +24,9 @@ unfolding renewsDiagnostics
 returns-2 c = rw (not-false (c .before .before .before .args .accepted) (c .before .before .if1 .left), c .enum-told .given .1)
 
 returns-3 : tie.Need-returns-3
-unfolding renewsDiagnostics diagnosticsOf
-returns-3 c = rw (not-false (c .before .before .before .before .args .accepted) (c .before .before .before .if1 .left), c .before .enum-told2 .given .1) (c .cancels-or-opens .ensures)
+returns-3 c =
+    let a = c .before .before .before .before .args in
+    rw (not-false (a .accepted) (c .before .before .before .if1 .left)) (c .cancels-or-opens .ensures ∙ ap (renewsDiagnostics (a .q) (a .outstanding) (a .current)) (sym (c .before .enum-told2 .given .1)))
 
 pub renews-diagnostics-spec : {M : Type 1} → statement M
 renews-diagnostics-spec =

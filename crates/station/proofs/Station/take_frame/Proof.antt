@@ -2,7 +2,6 @@
 -- Assumes nothing.
 use mathlib.Core.Path.{_∙_}
 use Rattle.model.specs.Stations.{frameCall, act, readingOf, step}
-use Rattle.station.specs.Calls.{requestCall}
 use borrow.Author.Needs.{needs}
 use Rattle.station.proofs.Station.take_frame.Statement.{statement}
 use Rattle.station.proofs.Station.take_frame.Tie as tie
@@ -17,7 +16,7 @@ take-request-requires : tie.Need-take-request-requires
 take-request-requires c κs = search needs
 
 returns : tie.Need-returns
-unfolding step act readingOf frameCall requestCall
+unfolding step act readingOf frameCall
 returns c = c .take-request .ensures ∙ rw (c .before .before .ticked .ensures, c .before .read-request .ensures)
 
 pub take-frame-spec : {M : Type 1} → statement M
