@@ -7,6 +7,7 @@ use lib.ListN.{length, getD, drop, length-append, drop-of-length-le}
 use lib.Seq.{drop-cons}
 use native.Mathlib.Numerals.{add-one}
 use native.Mathlib.Omega.{arith}
+use Rattle.laws.specs.Among.{Among, first, later}
 use Rattle.laws.specs.Buffers.{pieces}
 use Rattle.laws.proofs.Parts.{stands-behind}
 
@@ -26,10 +27,21 @@ unfolding pieces
 pieces-snoc f i [] p = append-nil (f p)
 pieces-snoc f i (x ∷ ps) p = ap (λ (l : List ℕ). f x ++ l) (pieces-snoc f (suc i) ps p) ∙ sym (append-assoc (f x) _ (f p))
 
+-- pieces that do not look at their number
+pub pieces-from : {P : Type 0} (f : P → List ℕ) (i j : ℕ) (ps : List P) → pieces (λ _ p. f p) i ps ≡ pieces (λ _ p. f p) j ps
+unfolding pieces
+pieces-from f i j [] = refl
+pieces-from f i j (p ∷ ps) = ap (λ (o : List ℕ). f p ++ o) (pieces-from f (suc i) (suc j) ps)
+
 -- what each piece has, given those before it
 unfoldable pub Each : {P : Type 0} → (List P → P → Type 0) → List P → List P → Type 0
 Each F front [] = Unit {0}
 Each F front (p ∷ ps) = F front p × Each F (front ++ (p ∷ [])) ps
+
+pub each-among : {P : Type 0} (F : P → Type 0) (front ps : List P) → ((p : P) → Among p ps → F p) → Each (λ _ p. F p) front ps
+unfolding Each
+each-among F front [] f = tt
+each-among F front (p ∷ ps) f = (f p first, each-among F (front ++ (p ∷ [])) ps (λ q m. f q (later m)))
 
 -- what holds at a position behind some pieces, and what each piece carries on, holds at the end
 module _ {P : Type 0} (f : ℕ → P → List ℕ) (s : List ℕ) (end : ℕ) (Fine : List P → P → Type 0) (Left : ℕ → List P → Type 0)

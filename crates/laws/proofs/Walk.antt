@@ -7,6 +7,7 @@ use lib.Dec.{eqb, ltb}
 use borrow.Author.Tests.{eq-eqb, ne-eqb, lt-ltb, le-ltb}
 use native.Mathlib.Omega.{arith}
 use Rattle.laws.specs.Walk.{repeatWhile}
+use Rattle.laws.proofs.Choice.{never}
 
 -- with at least `left` turns of fuel, the walk from w gives `whole`
 pub record Rest {A : Type 0} (more : A → Bool) (step : A → A) (whole : A) (left : ℕ) (w : A) : Type 0 where
@@ -72,6 +73,10 @@ keeps-while P more step f (suc k) w p = at-test (more w) refl (λ m. keeps-while
 pub and-first : (a b : Bool) → (a && b) ≡ true → a ≡ true
 and-first true b e = refl
 and-first false b e = e
+
+pub and-second : (a b : Bool) → (a && b) ≡ true → b ≡ true
+and-second true b e = e
+and-second false b e = never e
 
 -- what every step keeps, the walk keeps
 pub keeps : {A : Type 0} (P : A → Type 0) (more : A → Bool) (step : A → A) → ((w : A) → P w → P (step w)) → (k : ℕ) (w : A) → P w → P (repeatWhile k more step w)

@@ -1,3 +1,4 @@
 pub mod Choice
 pub mod Walk
 pub mod Buffers
+pub mod Among

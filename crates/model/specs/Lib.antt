@@ -4,6 +4,10 @@ pub mod Dialogs
 pub mod Fill
 pub mod Diagnostics
 pub mod Events
+pub mod NextEvent
 pub mod Stations
+pub mod Refusals
 pub mod Runs
+pub mod Sound
 pub mod Independence
+pub mod Starred

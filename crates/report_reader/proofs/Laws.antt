@@ -21,7 +21,7 @@ use Rattle.subelements.specs.Subelements.{walk}
 use Rattle.report_reader.specs.declared.Step.{Step}
 use Rattle.report_reader.specs.declared.Verdict.{Verdict}
 use Rattle.report_reader.specs.declared.Walk.{Walk}
-use Rattle.report_reader.specs.Reader.{refusedStep, skippedStep, foundStep, plainStep, loggedStep, bareStep, transitionStep, eventStep, walkedStep, diagnosticStep, kindStep, ownStep, stepAt, atWalk, advanced, more, judgeStep, judge, Reading, reading, gathered, unread, readStep, readElements, viewed}
+use Rattle.report_reader.specs.Reader.{refusedStep, skippedStep, foundStep, plainStep, loggedStep, bareStep, transitionStep, eventStep, walkedStep, diagnosticStep, kindStep, ownStep, stepAt, atWalk, advanced, more, judgeStep, judge, elementReadAt, Reading, reading, gathered, unread, readStep, readElements, viewed}
 use Rattle.report_reader.specs.Verdicts.{verdictOf, transitionAt, elementAt, Fits, stepOf}
 
 -- ---- an event report of length 3 is plain
@@ -170,18 +170,18 @@ moved s kind {w} e c z = rw e (advanced-moves s w (stepAt s kind (w .at)) (step-
 
 -- ---- the judgement agrees with the cursor's walk
 
-gathered-viewed : (w : Reading) (t : Step) → advanced (viewed w) t ≡ viewed (gathered w t)
+gathered-viewed : (s : List ℕ) (w : Reading) (t : Step) → advanced (viewed w) t ≡ viewed (gathered s w t)
 unfolding advanced gathered if_then_else_
-gathered-viewed w t = go (not (eqb (t .refusal .number) 0)) (t .found)
+gathered-viewed s w t = go (not (eqb (t .refusal .number) 0)) (t .found)
   where
     go : (a b : Bool)
         → (if a then atWalk (t .refusal) 0 0 else if b then atWalk noRefusal (t .next .at) (length (w .elements) + 1) else atWalk noRefusal (t .next .at) (length (w .elements)))
-        ≡ viewed (if a then reading (t .refusal) 0 [] else if b then reading noRefusal (t .next .at) (w .elements ++ (t .element ∷ [])) else reading noRefusal (t .next .at) (w .elements))
+        ≡ viewed (if a then reading (t .refusal) 0 [] else if b then reading noRefusal (t .next .at) (w .elements ++ (elementReadAt s t ∷ [])) else reading noRefusal (t .next .at) (w .elements))
     go true b = refl
-    go false true = rw (length-append (w .elements) (t .element ∷ []))
+    go false true = rw (length-append (w .elements) (elementReadAt s t ∷ []))
     go false false = refl
 
 pub agrees : (s : List ℕ) (kind : Kind) → judge s kind ≡ viewed (readElements s kind)
 unfolding judge readElements judgeStep readStep
 agrees s kind =
-    view-walk viewed (unread (length s)) (more (length s)) (readStep s kind) (judgeStep s kind) (λ _. refl) (λ w. gathered-viewed w (stepAt s kind (w .at))) (length s) (reading noRefusal 3 [])
+    view-walk viewed (unread (length s)) (more (length s)) (readStep s kind) (judgeStep s kind) (λ _. refl) (λ w. gathered-viewed s w (stepAt s kind (w .at))) (length s) (reading noRefusal 3 [])

@@ -1,3 +1,3 @@
 pub mod Reader
 pub mod Verdicts
-pub mod Sent
+pub mod Contents

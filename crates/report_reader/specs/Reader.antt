@@ -176,25 +176,33 @@ readReport destination s =
 
 -- ---- the elements that the cursor hands out, from the front to the end or to the first refusal
 
+-- an element's fields, and the octets behind its status
+pub record ElementRead : Type 0 where
+  pub element : Element
+  pub behind : List ℕ
+
+abbrev pub elementReadAt : List ℕ → Step → ElementRead
+elementReadAt s t = record { element = t .element; behind = part s (t .rest) (t .element .length) }
+
 pub record Reading : Type 0 where
   pub refusal : Refusal
   pub at : ℕ
-  pub elements : List Element
+  pub elements : List ElementRead
 
-abbrev pub reading : Refusal → ℕ → List Element → Reading
+abbrev pub reading : Refusal → ℕ → List ElementRead → Reading
 reading refusal at elements = record { refusal = refusal; at = at; elements = elements }
 
-unfoldable pub gathered : Reading → Step → Reading
-gathered w t =
+unfoldable pub gathered : List ℕ → Reading → Step → Reading
+gathered s w t =
     if not (eqb (t .refusal .number) 0) then reading (t .refusal) 0 []
-    else if t .found then reading noRefusal (t .next .at) (w .elements ++ (t .element ∷ []))
+    else if t .found then reading noRefusal (t .next .at) (w .elements ++ (elementReadAt s t ∷ []))
     else reading noRefusal (t .next .at) (w .elements)
 
 abbrev pub unread : ℕ → Reading → Bool
 unread end w = eqb (w .refusal .number) 0 && ltb (w .at) end
 
 unfoldable pub readStep : List ℕ → Kind → Reading → Reading
-readStep s kind w = gathered w (stepAt s kind (w .at))
+readStep s kind w = gathered s w (stepAt s kind (w .at))
 
 unfoldable pub readElements : List ℕ → Kind → Reading
 readElements s kind = repeatWhile (length s) (unread (length s)) (readStep s kind) (reading noRefusal 3 [])

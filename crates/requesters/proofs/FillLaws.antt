@@ -17,25 +17,12 @@ use Rattle.laws.specs.Buffers.{onto, Written, wrote, putFront}
 use Rattle.laws.proofs.Buffers.{length-onto, lent-length, lent, put-front-fits, put-front-short}
 use Rattle.laws.proofs.Choice.{either}
 use Rattle.octets.specs.Numbers.{category, longestFrame}
+use Rattle.model.proofs.FillLaws.{fill-fits}
 use Rattle.model.specs.Fill.{Piece, nothingMore, before, fillWith, fill, nextFrame}
 use Rattle.model.specs.Stations.{room}
 use Rattle.requesters.specs.Giving.{isNone, FilledAs, FramedAs}
 
 module _ {R : Type 0} (next : R → Option (Piece R)) where
-  -- ---- a fill stays within its room
-  pub fill-fits : (fuel room : ℕ) (r : R) → length (fill next fuel room r .octets) ≤ room
-  unfolding fill fillWith
-  fill-fits zero room r = omega arith
-  fill-fits (suc fuel) room r = by-next (next r) (fill-fits fuel)
-    where
-      by-next : (o : Option (Piece R)) → ((k : ℕ) (q : R) → length (fill next fuel k q .octets) ≤ k)
-          → length (fillWith r room (λ p. fill next fuel (room - length (p .octets)) (p .rest)) o .octets) ≤ room
-      by-next none ih = omega arith
-      by-next (some p) ih =
-          either (λ (x : Piece R). length (x .octets) ≤ room) _ _ _
-          (λ h. omega (arith, leb-true (length (p .octets)) room h, length-append (p .octets) (fill next fuel (room - length (p .octets)) (p .rest) .octets), ih (room - length (p .octets)) (p .rest)))
-          (λ _. omega arith)
-
   pub record Filling (q : R) (s buf : List ℕ) (at : ℕ) (r : R) : Type 0 where
     pub head : List ℕ
     pub fuel : ℕ

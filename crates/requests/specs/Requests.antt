@@ -2,16 +2,21 @@
 -- Assumes nothing.
 use Prim.Native.Nat.{ℕ}
 use mathlib.Core.Bool.{Bool, false, not}
-use mathlib.Core.List.{List}
+use mathlib.Core.List.{List, [], _∷_}
 use lib.ListN.{length, getD}
 use lib.Dec.{ltb, eqb}
 use Rattle.laws.specs.Choice.{if_then_else_}
 use Rattle.octets.specs.declared.numbers.Kind.{Kind}
 use Rattle.octets.specs.declared.numbers.Kind.the-variants.{Event, Diagnostic}
-use Rattle.octets.specs.Refusals.{refused, noRefusal, frameLength, frameHeader, dialogToken, noElement}
+use Rattle.octets.specs.Refusals.{refused, noRefusal, frameLength, frameHeader, dialogToken, elementEdge, elementLength, elementToken, subelement, repeatedSubelement, ninthElement, noElement}
 use Rattle.octets.specs.Numbers.{category, requestAction, shortestFrame, longestFrame}
 use Rattle.requests.specs.declared.Request.{Request}
 use Rattle.requests.specs.Elements.{blankElements, Elements, walkElements}
+
+-- the causes of the table that speak of a request frame
+abbrev pub requestCauses : List ℕ
+requestCauses =
+    frameLength ∷ frameHeader ∷ dialogToken ∷ elementEdge ∷ elementLength ∷ elementToken ∷ subelement ∷ repeatedSubelement ∷ ninthElement ∷ noElement ∷ []
 
 -- a refused request: everything but the refusal is fixed
 abbrev pub refusedRequest : ℕ → ℕ → Request

@@ -1,0 +1,99 @@
+-- The round trip speaks of something: a gate that logged one transition across the rollover, and its two reports.
+-- Assumes nothing.
+use Prim.Native.Nat.{ℕ, zero, suc}
+use mathlib.Core.Path.{_≡_, refl}
+use mathlib.Core.List.{List, [], _∷_, _++_}
+use lib.ListN.{length, take}
+use Rattle.laws.specs.Choice.{if_then_else_}
+use Rattle.laws.specs.Walk.{repeatWhile}
+use Rattle.octets.specs.declared.numbers.Kind.{Kind}
+use Rattle.octets.specs.declared.numbers.Kind.the-variants.{Event, Diagnostic}
+use Rattle.octets.specs.Addresses.{same, addressAt}
+use Rattle.octets.specs.Elements.{pieceEnd}
+use Rattle.octets.specs.Times.{inRange, goodTime}
+use Rattle.subelements.specs.Subelements.{wholeStep, step as Subelements·step, walk}
+use Rattle.requests.specs.Elements.{subelementsOf, subelementsStart, hasToken, badToken, withElement, ownStep, elementStep, walkElements}
+use Rattle.requests.specs.Requests.{requestOf, kindOf, headerCause, readRequest}
+use Rattle.events.specs.declared.Transition.{Transition}
+use Rattle.events.specs.Log.{pushed, bodyOf, entryOf}
+use Rattle.events.specs.Choice.{firstOf, nextPlace}
+use Rattle.events.specs.Conditions.{asked, transitionMeets, meetsAt, meets}
+use Rattle.identities.specs.Identity.{stands, passRow, goodFrom, goodIdentity}
+use Rattle.reports.specs.Reports.{reportElement, eventElement}
+use Rattle.model.specs.Model.{Address, Station, Call, logging, frame, report, written}
+use Rattle.model.specs.Requesters.{holds, repeated, hasGroup, badList, newRequester, find, put}
+use Rattle.model.specs.Dialogs.{replace}
+use Rattle.model.specs.Fill.{fillWith, fill, nextFrame}
+use Rattle.model.specs.Events.{eventTreatment, openEvents, takeEvents, nextEventPlace, gave, without, reportFront, treatFront, nextFrom, nextEvent, unlessDone}
+use Rattle.model.specs.Diagnostics.{diagnosticTreatment, isLate, onTime, unlessOver, dropLate, holdsCancel, diagnosticsOf, takeDiagnostics, diagnosticReport, nextDiagnostic}
+use Rattle.model.specs.Stations.{setup, tickRequester, tick, logRequester, logEntry, logCall, withRequester, serveFound, serveListed, takeKind, takeRequest, requestCall, frameCall, giveEvents, giveDiagnostics, ifOutstanding, octetsOf, giveKind, giveReport, reportCall, act, readingOf, step}
+use Rattle.model.specs.Runs.{run}
+use Rattle.laws.specs.Among.{Among, first, later}
+use Rattle.laws.proofs.Among.{among-none}
+use Rattle.laws.proofs.Choice.{never}
+use Rattle.events.specs.Loggings.{Logging, TransitionLengths}
+use Rattle.model.specs.Sound.{loggingCall}
+use Rattle.demands.specs.StationRoundTrip.{RoundTrip, WellFormed}
+use Rattle.demands.proofs.StationRoundTrip.{station-round-trip}
+
+identity : List ℕ
+identity = 13 ∷ 3 ∷ 1 ∷ 2 ∷ 3 ∷ 11 ∷ 1 ∷ 4 ∷ 12 ∷ 1 ∷ 5 ∷ 14 ∷ 1 ∷ 6 ∷ 9 ∷ 1 ∷ 7 ∷ []
+
+console : Address
+console = 2 ∷ 0 ∷ 0 ∷ 0 ∷ 0 ∷ 1 ∷ []
+
+moved : Transition
+moved = record {
+  time = 0 ∷ 0 ∷ 0 ∷ 0 ∷ 0 ∷ 1 ∷ 1 ∷ 0 ∷ 0 ∷ [];
+  source = 2 ∷ 1 ∷ 1 ∷ 1 ∷ 1 ∷ 1 ∷ [];
+  target = 2 ∷ 1 ∷ 1 ∷ 1 ∷ 1 ∷ 2 ∷ [];
+  reason = 3;
+  result = 258;
+  signals = 8 ∷ 9 ∷ 10 ∷ 11 ∷ [];
+  departure = record { 0 = 4294967290 };
+}
+
+calls : List Call
+calls =
+    logging 10 moved
+    ∷ frame 11 console console (10 ∷ 0 ∷ 7 ∷ 78 ∷ 3 ∷ 5 ∷ 0 ∷ 4 ∷ [])
+    ∷ frame 12 console console (10 ∷ 2 ∷ 8 ∷ 80 ∷ 4 ∷ 6 ∷ 1 ∷ 9 ∷ 0 ∷ [])
+    ∷ []
+
+zeros : ℕ → List ℕ
+zeros zero = []
+zeros (suc n) = 0 ∷ zeros n
+
+abbrev gate : Station
+gate = run (setup identity (console ∷ []) .station) calls
+
+abbrev after : Kind → ℕ → Type 0
+after kind n = step gate (report 13 console kind (zeros 260)) .answer ≡ written n
+
+-- an event of 35 octets, and the identity behind five
+gives-event : after Event 38
+unfolding zeros identity console moved calls if_then_else_ repeatWhile same addressAt pieceEnd inRange goodTime wholeStep Subelements·step walk subelementsOf subelementsStart hasToken badToken withElement ownStep elementStep walkElements requestOf kindOf headerCause readRequest pushed bodyOf entryOf firstOf nextPlace asked transitionMeets meetsAt meets stands passRow goodFrom goodIdentity reportElement eventElement holds repeated hasGroup badList newRequester find put replace fillWith fill nextFrame eventTreatment openEvents takeEvents nextEventPlace gave without reportFront treatFront nextFrom nextEvent unlessDone diagnosticTreatment isLate onTime unlessOver dropLate holdsCancel diagnosticsOf takeDiagnostics diagnosticReport nextDiagnostic setup tickRequester tick logRequester logEntry logCall withRequester serveFound serveListed takeKind takeRequest requestCall frameCall giveEvents giveDiagnostics ifOutstanding octetsOf giveKind giveReport reportCall act readingOf step run
+gives-event = refl
+
+gives-identity : after Diagnostic 25
+unfolding zeros identity console moved calls if_then_else_ repeatWhile same addressAt pieceEnd inRange goodTime wholeStep Subelements·step walk subelementsOf subelementsStart hasToken badToken withElement ownStep elementStep walkElements requestOf kindOf headerCause readRequest pushed bodyOf entryOf firstOf nextPlace asked transitionMeets meetsAt meets stands passRow goodFrom goodIdentity reportElement eventElement holds repeated hasGroup badList newRequester find put replace fillWith fill nextFrame eventTreatment openEvents takeEvents nextEventPlace gave without reportFront treatFront nextFrom nextEvent unlessDone diagnosticTreatment isLate onTime unlessOver dropLate holdsCancel diagnosticsOf takeDiagnostics diagnosticReport nextDiagnostic setup tickRequester tick logRequester logEntry logCall withRequester serveFound serveListed takeKind takeRequest requestCall frameCall giveEvents giveDiagnostics ifOutstanding octetsOf giveKind giveReport reportCall act readingOf step run
+gives-identity = refl
+
+-- its one logged transition has its lengths, so both are read back
+is-moved : (x : Logging) → loggingCall x ≡ logging 10 moved → TransitionLengths (x .transition)
+unfolding moved
+is-moved x e = let t : x .transition ≡ moved = cc in rw t (record { time = refl; source = refl; target = refl; signals = refl })
+
+one-of : {A B : Type 0} {x y : A} {ys : List A} → Among x (y ∷ ys) → (x ≡ y → B) → (Among x ys → B) → B
+one-of first f g = f refl
+one-of (later m) f g = g m
+
+calls-formed : WellFormed calls
+unfolding calls
+calls-formed x m = one-of m (is-moved x) (λ m₁. one-of m₁ (λ e. never cc) (λ m₂. one-of m₂ (λ e. never cc) among-none))
+
+event-read-back : RoundTrip identity calls (tick 13 gate) console Event 38 (step gate (report 13 console Event (zeros 260)) .buffer)
+event-read-back = station-round-trip identity (console ∷ []) calls calls-formed 13 console Event (zeros 260) 38 gives-event
+
+identity-read-back : RoundTrip identity calls (tick 13 gate) console Diagnostic 25 (step gate (report 13 console Diagnostic (zeros 260)) .buffer)
+identity-read-back = station-round-trip identity (console ∷ []) calls calls-formed 13 console Diagnostic (zeros 260) 25 gives-identity

@@ -1,0 +1,4 @@
+pub mod Filled
+pub mod Contents
+pub mod StationRoundTrip
+pub mod Cases

@@ -1,0 +1,129 @@
+-- What a report call writes is read back to what was logged and set up.
+-- Assumes nothing.
+use Prim.Native.Nat.{ℕ, suc, _+_, _-_, _≤_, min}
+use mathlib.Core.Path.{_≡_, refl, sym, ap, _∙_}
+use mathlib.Core.Bool.{Bool, true, false}
+use mathlib.Core.List.{List, [], _∷_, _++_}
+use mathlib.Core.Option.{Option, none, some}
+use native.Mathlib.Omega.{arith}
+use lib.ListN.{length, take, drop}
+use lib.Seq.{take-at}
+use borrow.Author.Tests.{ltb-false}
+use Rattle.laws.specs.Choice.{if_then_else_}
+use Rattle.laws.specs.Buffers.{onto, pieces}
+use Rattle.laws.proofs.Choice.{either, never}
+use Rattle.octets.specs.declared.numbers.Kind.{Kind}
+use Rattle.octets.specs.declared.numbers.Kind.the-variants.{Event, Diagnostic}
+use Rattle.octets.specs.Numbers.{category, reportAction, longestFrame, reportBuffer}
+use Rattle.octets.specs.Addresses.{isGroup}
+use Rattle.events.specs.declared.Entry.{Entry}
+use Rattle.identities.specs.Identity.{goodIdentity}
+use Rattle.model.specs.declared.Diagnostic.{Diagnostic as DiagnosticElement}
+use Rattle.model.specs.Model.{Address, EventRequest, DiagnosticRequest, Requester, Station, Call, report, Answer, nothing, written, refused}
+use Rattle.model.specs.Requesters.{find}
+use Rattle.model.specs.Fill.{Piece, before, fill, nextFrame}
+use Rattle.model.specs.Events.{nextEvent}
+use Rattle.model.specs.Diagnostics.{nextDiagnostic}
+use Rattle.model.specs.Stations.{Served, room, setup, tick, serveFound, serveListed, giveEvents, giveDiagnostics, ifOutstanding, octetsOf, giveKind, giveReport, reportCall, act, readingOf, step}
+use Rattle.model.specs.Runs.{run}
+use Rattle.report_reader.specs.Contents.{Content, contentFrame}
+use Rattle.report_reader.proofs.RoundTrip.{report-round-trip}
+use Rattle.model.specs.Sound.{Identified, named, unnamed, Sound}
+use Rattle.demands.specs.StationRoundTrip.{WellFormed, Gives, Chosen, events, diagnostics, RoundTrip, StationRoundTrip}
+use Rattle.model.proofs.Sound.{sound-tick, always-sound}
+use Rattle.model.proofs.FillLaws.{fill-fits}
+use Rattle.demands.proofs.Filled.{Tells, Filled, fill-tells}
+use Rattle.demands.proofs.Contents.{Good, events-tell, diagnostics-tell}
+
+written-is : (m n : ℕ) → written m ≡ written n → m ≡ n
+written-is m n e = cc
+
+-- ---- a frame that was filled from a request
+
+module _ {R : Type 0} (i : List ℕ) (cs : List Call) (g : Station) (kind : Kind) (next : R → Option (Piece R)) (tells : (r : R) (p : Piece R) → next r ≡ some p → Tells kind (Good i cs (g .log) kind) (p .octets))
+    (dialog : ℕ) (q : R) (b : List ℕ) (a : Address) (r : Requester) (found : find a (g .requesters) ≡ some r) where
+  abbrev o : List ℕ
+  o = nextFrame next (reportAction kind) dialog (room b) q .octets
+
+  filled : Filled kind next (Good i cs (g .log) kind) q (fill next (room b - 3) (room b - 3) q)
+  filled = fill-tells kind next (Good i cs (g .log) kind) tells (room b - 3) (room b - 3) q
+
+  frame-is : o ≡ contentFrame kind dialog (filled .contents)
+  unfolding nextFrame
+  frame-is = ap (λ (l : List ℕ). category ∷ reportAction kind ∷ dialog ∷ l) (filled .octets)
+
+  frame-fits : 3 ≤ length b → length o ≤ longestFrame
+  unfolding nextFrame
+  frame-fits few = omega (arith, fill-fits next (room b - 3) (room b - 3) q)
+
+  frame-read-back : 3 ≤ length b → ((xs : List (Content kind)) (q′ : R) → Gives kind next q xs q′ → Chosen g r kind dialog xs) → (n : ℕ) → written (length o) ≡ written n → RoundTrip i cs g a kind n (onto o b)
+  frame-read-back few chosen n e =
+      let l : length o ≡ n = written-is (length o) n e in
+      let t : take n (onto o b) ≡ o = take-at o (drop (length o) b) n l in
+      record {
+        requester = r;
+        dialog = dialog;
+        contents = filled .contents;
+        found = found;
+        chosen = chosen (filled .contents) _ (filled .gives);
+        truthful = λ x m. filled .good x m .1;
+        whole = ap length t ∙ l;
+        wrote = t ∙ frame-is;
+        read = λ d single. rw (t, frame-is) (report-round-trip kind dialog (filled .contents) (λ x m. filled .good x m .0) (rw frame-is at (frame-fits few)) d single);
+      }
+
+-- ---- the call
+
+module _ (i : List ℕ) (cs : List Call) (whole : WellFormed cs) (g : Station) (sound : Sound i cs g) (a : Address) (b : List ℕ) (n : ℕ) where
+  -- what is given for a listed requester is read back where it is written
+  abbrev Makes : Kind → Served → Type 0
+  Makes kind v = v .answer ≡ written n → RoundTrip i cs g a kind n (v .buffer)
+
+  module _ (few : 3 ≤ length b) (r : Requester) (found : find a (g .requesters) ≡ some r) where
+    gives-events : (q : EventRequest) → r .events ≡ some q → Makes Event (giveEvents (g .log) b r q)
+    unfolding giveEvents
+    gives-events q e =
+        let tells = events-tell i cs whole (g .log) (sound .log) in
+        frame-read-back i cs g Event (nextEvent (g .log)) tells (q .dialog) q b a r found few
+        (λ xs q′ h. events e h) n
+
+    identity-there : Identified i g → (g .identity ≡ some i) × (goodIdentity i ≡ true)
+    unfolding find
+    identity-there (named e h) = (e, h)
+    identity-there (unnamed e h) = let z : find a [] ≡ some r = ap (find a) (sym h) ∙ found in never cc
+
+    gives-diagnostics : (q : DiagnosticRequest) → r .diagnostics ≡ some q → Makes Diagnostic (giveDiagnostics (octetsOf (g .identity)) b r q)
+    unfolding giveDiagnostics octetsOf
+    gives-diagnostics q e =
+        let k = identity-there (sound .identity) in
+        let next : List DiagnosticElement → Option (Piece (List DiagnosticElement)) = nextDiagnostic (octetsOf (g .identity)) in
+        let tells : (xs : List DiagnosticElement) (p : Piece (List DiagnosticElement)) → next xs ≡ some p → Tells Diagnostic (Good i cs (g .log) Diagnostic) (p .octets) = rw (k .0) (diagnostics-tell i cs (g .log) (k .1)) in
+        frame-read-back i cs g Diagnostic next tells (q .dialog) (q .elements) b a r found few
+        (λ xs left h. diagnostics e h) n
+
+    outstanding : {Q : Type 0} (kind : Kind) (give : Q → Served) (o : Option Q) → ((q : Q) → o ≡ some q → Makes kind (give q)) → Makes kind (ifOutstanding give r b o)
+    unfolding ifOutstanding
+    outstanding kind give none f = λ e. never cc
+    outstanding kind give (some q) f = f q refl
+
+    gives-kind : (kind : Kind) → Makes kind (giveKind (g .identity) (g .log) b r kind)
+    unfolding giveKind
+    gives-kind Event = outstanding Event _ (r .events) gives-events
+    gives-kind Diagnostic = outstanding Diagnostic _ (r .diagnostics) gives-diagnostics
+
+  gives-report : (kind : Kind) (r : Requester) → find a (g .requesters) ≡ some r → Makes kind (giveReport (g .identity) (g .log) kind b r)
+  unfolding giveReport
+  gives-report kind r found = either (Makes kind) _ _ _ (λ _ e. never cc) (λ h. gives-kind (omega (arith, ltb-false (length b) reportBuffer h)) r found kind)
+
+  found-read-back : (kind : Kind) (o : Option Requester) → find a (g .requesters) ≡ o
+      → serveFound a (giveReport (g .identity) (g .log) kind b) b g o .answer ≡ written n → RoundTrip i cs g a kind n (serveFound a (giveReport (g .identity) (g .log) kind b) b g o .buffer)
+  unfolding serveFound
+  found-read-back kind none found = λ e. never cc
+  found-read-back kind (some r) found = gives-report kind r found
+
+-- What a report call writes is read back to what was logged and set up.
+pub station-round-trip : StationRoundTrip
+unfolding step act readingOf reportCall serveListed
+station-round-trip i l cs whole t a kind b n e =
+    let g : Station = tick t (run (setup i l .station) cs) in
+    found-read-back i cs whole g (sound-tick i cs t _ (always-sound .after i l cs)) a b n kind (find a (g .requesters)) refl e

@@ -1,0 +1,75 @@
+-- Demand 2 for reports: what a report call writes, the report reader reads back to what was logged and set up. One claim about every list
+-- of calls from setup on; its proof is in proofs/StationRoundTrip.antt.
+-- Assumes nothing.
+use Prim.Native.Nat.{ℕ}
+use mathlib.Core.Path.{_≡_}
+use mathlib.Core.Bool.{false}
+use mathlib.Core.List.{List, [], _∷_}
+use mathlib.Core.Option.{Option, some}
+use lib.ListN.{length, take}
+use Rattle.laws.specs.Among.{Among}
+use Rattle.octets.specs.declared.numbers.Kind.{Kind}
+use Rattle.octets.specs.declared.numbers.Kind.the-variants.{Event, Diagnostic}
+use Rattle.octets.specs.Numbers.{successful}
+use Rattle.octets.specs.Addresses.{isGroup}
+use Rattle.octets.specs.Elements.{subelements}
+use Rattle.events.specs.declared.Entry.{Entry}
+use Rattle.events.specs.Loggings.{Logging, entryFor, TransitionLengths}
+use Rattle.model.specs.declared.Diagnostic.{Diagnostic as DiagnosticElement}
+use Rattle.model.specs.Model.{Address, EventRequest, DiagnosticRequest, Requester, Station, Call, report, written}
+use Rattle.model.specs.Requesters.{find}
+use Rattle.model.specs.Fill.{Piece}
+use Rattle.model.specs.Events.{nextEvent}
+use Rattle.model.specs.Diagnostics.{nextDiagnostic}
+use Rattle.model.specs.Stations.{octetsOf, setup, tick, step}
+use Rattle.model.specs.Runs.{run}
+use Rattle.model.specs.Sound.{loggingCall}
+use Rattle.report_reader.specs.Contents.{Content, statusOnly, loggedEvent, keptUnread, withSubelements, contentOctets, contentFrame, ReadAs}
+
+-- ---- what a request chooses
+
+-- a request r gives these elements, one after the other, and r′ is left of it: each is the model's next one
+pub data Gives {R : Type 0} (kind : Kind) (next : R → Option (Piece R)) : R → List (Content kind) → R → Type 0 where
+  over : {r : R} → Gives kind next r [] r
+  gives : {r r′ r″ : R} {x : Content kind} {xs : List (Content kind)} → next r ≡ some (record { octets = contentOctets kind x; rest = r′ })
+      → Gives kind next r′ xs r″ → Gives kind next r (x ∷ xs) r″
+
+-- a requester's outstanding request of a kind has a dialog token and gives these elements
+pub data Chosen (g : Station) (r : Requester) : (kind : Kind) → ℕ → List (Content kind) → Type 0 where
+  events : {q q′ : EventRequest} {xs : List (Content Event)} → r .events ≡ some q → Gives Event (nextEvent (g .log)) q xs q′ → Chosen g r Event (q .dialog) xs
+  diagnostics : {q : DiagnosticRequest} {left : List DiagnosticElement} {xs : List (Content Diagnostic)} → r .diagnostics ≡ some q
+      → Gives Diagnostic (nextDiagnostic (octetsOf (g .identity))) (q .elements) xs left → Chosen g r Diagnostic (q .dialog) xs
+
+-- a transition that is told was logged by one of the calls, and is in the log; subelements are the identity, Successful; nothing else
+-- has octets behind its status
+abbrev pub Truthful : List ℕ → List Call → List Entry → (kind : Kind) → Content kind → Type 0
+Truthful i cs log kind (statusOnly token ty status) = Unit {0}
+Truthful i cs log kind (loggedEvent token x) = Among (loggingCall x) cs × Among (entryFor x) log
+Truthful i cs log kind (keptUnread token ty o) = ⊥
+Truthful i cs log kind (withSubelements token ty status ps) = (status ≡ successful) × (subelements ps ≡ i)
+
+-- ---- the round trip
+
+-- n octets of a buffer, written for the requester at an address of the station g: what its request chose is so, and is read of them,
+-- whatever the individual destination
+pub record RoundTrip (i : List ℕ) (cs : List Call) (g : Station) (a : Address) (kind : Kind) (n : ℕ) (buffer : List ℕ) : Type 0 where
+  pub requester : Requester
+  pub dialog : ℕ
+  pub contents : List (Content kind)
+  pub found : find a (g .requesters) ≡ some requester
+  pub chosen : Chosen g requester kind dialog contents
+  pub truthful : (x : Content kind) → Among x contents → Truthful i cs (g .log) kind x
+  pub whole : length (take n buffer) ≡ n
+  pub wrote : take n buffer ≡ contentFrame kind dialog contents
+  pub read : (d : Address) → isGroup d ≡ false → ReadAs d (take n buffer) kind dialog contents
+
+-- each logged transition has fields of their lengths, as in the code, where they are arrays
+abbrev pub WellFormed : List Call → Type 0
+WellFormed cs = (x : Logging) → Among (loggingCall x) cs → TransitionLengths (x .transition)
+
+-- for every identity and list that setup was given, every list of calls, and every report call behind it that is answered with a length
+abbrev pub StationRoundTrip : Type 0
+StationRoundTrip =
+    (i : List ℕ) (l : List Address) (cs : List Call) → WellFormed cs → (t : ℕ) (a : Address) (kind : Kind) (b : List ℕ) (n : ℕ)
+    → let g = run (setup i l .station) cs in
+    step g (report t a kind b) .answer ≡ written n → RoundTrip i cs (tick t g) a kind n (step g (report t a kind b) .buffer)

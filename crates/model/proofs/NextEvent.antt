@@ -1,0 +1,84 @@
+-- What the choice of an element's next event gives, by the laws of the choice.
+-- Assumes nothing.
+use Prim.Native.Nat.{ℕ, _≤_, _<_, min}
+use mathlib.Core.Path.{_≡_, refl, sym, _∙_}
+use mathlib.Core.Bool.{Bool, true, false}
+use mathlib.Core.List.{List}
+use mathlib.Core.Option.{Option, none, some}
+use lib.Dec.{ltb}
+use lib.ListN.{length}
+use borrow.Author.Tests.{ltb-true, ltb-false, lt-ltb, le-ltb}
+use native.Mathlib.Omega.{arith}
+use Rattle.laws.specs.Choice.{if_then_else_}
+use Rattle.laws.proofs.Choice.{either, never}
+use Rattle.requests.specs.declared.Element.{Element}
+use Rattle.events.specs.declared.Entry.{Entry}
+use Rattle.events.specs.Choice.{First, nextPlace}
+use Rattle.events.specs.Conditions.{meets}
+use Rattle.events.proofs.ChoiceLaws.{next-first, next-none, next-none-passes}
+use Rattle.model.specs.Model.{EventRequest}
+use Rattle.model.specs.Events.{nextEventPlace}
+use Rattle.model.specs.NextEvent.{Eligible, OldestMatch, NextEvent}
+
+module _ (log : List Entry) (r : EventRequest) (x : Element) where
+  abbrev test : ℕ → Bool
+  test = meets log (x .ty) (x .filter)
+
+  abbrev end : ℕ
+  end = min (r .mark) (length log)
+
+  eligible : (q : ℕ) → r .start ≤ q → q < end → Eligible log r q
+  eligible q a b = record { logged = omega (arith, b); accepted = omega (arith, b); later = a }
+
+  first-match : (p : ℕ) → r .given < x .limit → First test (r .start) end p → OldestMatch log r x p
+  first-match p l f = record {
+    limit = l;
+    eligible = eligible p (f .after) (f .within);
+    matches = f .passes;
+    oldest = λ q e h. f .first q (e .later) h;
+  }
+
+  given : (p : ℕ) → nextEventPlace log r x ≡ some p → OldestMatch log r x p
+  unfolding nextEventPlace
+  given p =
+      either (λ (o : Option ℕ). o ≡ some p → OldestMatch log r x p) _ _ _
+      (λ l e. first-match p (ltb-true (r .given) (x .limit) l) (next-first test (r .start) end p e)) (λ _ e. never cc)
+
+  -- below the limit the choice is that of the places
+  below : r .given < x .limit → nextEventPlace log r x ≡ nextPlace test (r .start) end
+  unfolding nextEventPlace if_then_else_
+  below l = rw (lt-ltb (r .given) (x .limit) l)
+
+  none-left : nextEventPlace log r x ≡ none → r .given < x .limit → (q : ℕ) → Eligible log r q → test q ≡ false
+  none-left e l q h = next-none-passes test (r .start) end q (sym (below l) ∙ e) (h .later) (omega (arith, h .accepted, h .logged))
+
+  over : x .limit ≤ r .given → nextEventPlace log r x ≡ none
+  unfolding nextEventPlace if_then_else_
+  over h = rw (le-ltb (r .given) (x .limit) h)
+
+  unmatched : ((q : ℕ) → Eligible log r q → test q ≡ false) → nextEventPlace log r x ≡ none
+  unfolding nextEventPlace
+  unmatched f =
+      either (λ (o : Option ℕ). o ≡ none) _ _ _ (λ _. next-none test (r .start) end (λ q a b. f q (eligible q a b))) (λ _. refl)
+
+  -- two oldest matches are one
+  one : (p q : ℕ) → OldestMatch log r x p → OldestMatch log r x q → q < p → false ≡ true
+  one p q m n h = sym (m .oldest q (n .eligible) h) ∙ n .matches
+
+  same-match : (p q : ℕ) → OldestMatch log r x p → OldestMatch log r x q → q ≡ p
+  same-match p q m n = by (ltb q p) refl (ltb p q) refl
+    where
+      by : (a : Bool) → ltb q p ≡ a → (b : Bool) → ltb p q ≡ b → q ≡ p
+      by true a b _ = never (one p q m n (ltb-true q p a))
+      by false a true b = never (one q p n m (ltb-true p q b))
+      by false a false b = omega (arith, ltb-false q p a, ltb-false p q b)
+
+  only : (p : ℕ) → OldestMatch log r x p → nextEventPlace log r x ≡ some p
+  only p m = by (nextEventPlace log r x) refl
+    where
+      by : (o : Option ℕ) → nextEventPlace log r x ≡ o → o ≡ some p
+      by none e = never (sym (none-left e (m .limit) p (m .eligible)) ∙ m .matches)
+      by (some q) e = rw (same-match p q m (given q e))
+
+pub next-event : NextEvent
+next-event = record { given = given; only = only; none-left = none-left; over = over; unmatched = unmatched }

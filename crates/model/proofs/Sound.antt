@@ -1,0 +1,130 @@
+-- Every run from setup on is sound.
+-- Assumes nothing.
+use Prim.Native.Nat.{ℕ}
+use mathlib.Core.Path.{_≡_, refl, sym, ap, _∙_}
+use mathlib.Core.Bool.{Bool, true, false, not}
+use mathlib.Core.List.{List, [], _∷_, _++_, map, map-append}
+use mathlib.Core.Option.{Option, none, some}
+use native.Mathlib.Omega.{arith}
+use lib.ListN.{length, drop}
+use lib.Dec.{ltb}
+use borrow.Author.Tests.{not-false}
+use Rattle.laws.specs.Among.{Among, first, later}
+use Rattle.laws.specs.Choice.{if_then_else_}
+use Rattle.laws.proofs.Among.{among-none, among-end}
+use Rattle.laws.proofs.Choice.{either, never}
+use Rattle.octets.specs.Times.{goodTime}
+use Rattle.events.specs.declared.Entry.{Entry}
+use Rattle.events.specs.declared.Transition.{Transition}
+use Rattle.events.specs.Log.{capacity, pushed, entryOf}
+use Rattle.events.specs.Loggings.{Logging, entryFor}
+use Rattle.identities.specs.Identity.{goodIdentity}
+use Rattle.model.specs.Model.{Address, Requester, Station, Call, clock, logging, frame, report, roam, change, Result}
+use Rattle.model.specs.Requesters.{newRequester, find, put}
+use Rattle.model.specs.Stations.{nobody, newStation, setup, tickRequester, tick, logRequester, logEntry, logCall, Served, withRequester, serveFound, serveListed, requestCall, frameCall, reportCall, renameWith, rename, act, readingOf, step}
+use Rattle.model.specs.Runs.{run}
+use Rattle.model.specs.Sound.{loggingCall, LoggedBy, Identified, named, unnamed, Sound, AlwaysSound}
+
+-- ---- the log
+
+module _ (cs : List Call) where
+  logged-empty : LoggedBy cs []
+  logged-empty = record { list = []; is = refl; called = λ x m. among-none m; timed = λ x m. among-none m }
+
+  logged-less : (log : List Entry) → LoggedBy cs log → LoggedBy cs (drop 1 log)
+  logged-less log j = go (j .list) (j .is) (j .called) (j .timed)
+    where
+      go : (xs : List Logging) → log ≡ map entryFor xs → ((x : Logging) → Among x xs → Among (loggingCall x) cs) → ((x : Logging) → Among x xs → goodTime (x .transition .time) ≡ true) → LoggedBy cs (drop 1 log)
+      go [] e f t = rw e logged-empty
+      go (y ∷ xs) e f t = record { list = xs; is = ap (drop 1) e; called = λ x m. f x (later m); timed = λ x m. t x (later m) }
+
+  logged-more : (log : List Entry) (x : Logging) → LoggedBy cs log → Among (loggingCall x) cs → goodTime (x .transition .time) ≡ true → LoggedBy cs (log ++ (entryFor x ∷ []))
+  logged-more log x j m t = record {
+    list = j .list ++ (x ∷ []);
+    is = ap (λ (l : List Entry). l ++ (entryFor x ∷ [])) (j .is) ∙ sym (map-append entryFor (j .list) (x ∷ []));
+    called = among-end (λ (y : Logging). Among (loggingCall y) cs) x m (j .list) (j .called);
+    timed = among-end (λ (y : Logging). goodTime (y .transition .time) ≡ true) x t (j .list) (j .timed);
+  }
+
+  logged-pushed : (log : List Entry) (x : Logging) → LoggedBy cs log → Among (loggingCall x) cs → goodTime (x .transition .time) ≡ true → LoggedBy cs (pushed capacity log (entryFor x))
+  unfolding pushed
+  logged-pushed log x j = logged-more _ x (either (LoggedBy cs) (ltb (length log) capacity) log (drop 1 log) (λ _. j) (λ _. logged-less log j))
+
+-- ---- the identity
+
+module _ (i : List ℕ) where
+  identified-kept : (g h : Station) → h .identity ≡ g .identity → (g .requesters ≡ [] → h .requesters ≡ []) → Identified i g → Identified i h
+  identified-kept g h e f (named p q) = named (e ∙ p) q
+  identified-kept g h e f (unnamed p q) = unnamed (e ∙ p) (f q)
+
+  identified-named : (g : Station) (j : List ℕ) (log : List Entry) (l : List Address) → g .identity ≡ some j → Identified i g → Identified i (newStation j log l)
+  identified-named g j log l e (named p q) = named (sym e ∙ p) q
+  identified-named g j log l e (unnamed p q) = never cc
+
+-- ---- calls
+
+module _ (i : List ℕ) (cs : List Call) where
+  abbrev After : Result → Type 0
+  After x = Sound i cs (x .station)
+
+  module _ (g : Station) (s : Sound i cs g) where
+    sound-found : (a : Address) (serve : Requester → Served) (b : List ℕ) (o : Option Requester) → After (serveFound a serve b g o)
+    unfolding serveFound withRequester put
+    sound-found a serve b none = s
+    sound-found a serve b (some r) = record { log = s .log; identity = identified-kept i g _ refl (λ e. ap (put a (serve r .requester)) e) (s .identity) }
+
+    sound-renamed : (log : List Entry) (l : List Address) → LoggedBy cs log → (o : Option (List ℕ)) → g .identity ≡ o → After (renameWith log l g o)
+    unfolding renameWith
+    sound-renamed log l j none e = s
+    sound-renamed log l j (some k) e = record { log = j; identity = identified-named i g k log l e (s .identity) }
+
+    sound-rename : (log : List Entry) (l : List Address) → LoggedBy cs log → After (rename log l g)
+    unfolding rename
+    sound-rename log l j = either After _ _ _ (λ _. s) (λ _. sound-renamed log l j (g .identity) refl)
+
+    sound-logging : (t : ℕ) (e : Transition) → Among (logging t e) cs → After (logCall t e g)
+    unfolding logCall logEntry
+    sound-logging t e m =
+        either After _ _ _ (λ _. s)
+        (λ h. record {
+          log = logged-pushed cs (g .log) (record { reading = t; transition = e }) (s .log) m (not-false _ h);
+          identity = identified-kept i g _ refl (λ p. ap (map (logRequester (g .log))) p) (s .identity);
+        })
+
+    sound-act : (c : Call) → Among c cs → After (act c g)
+    unfolding act requestCall frameCall reportCall serveListed
+    sound-act (clock t) m = s
+    sound-act (logging t e) m = sound-logging t e m
+    sound-act (frame t d a o) m = either After _ _ _ (λ _. s) (λ _. sound-found a _ [] (find a (g .requesters)))
+    sound-act (report t a k b) m = sound-found a _ b (find a (g .requesters))
+    sound-act (roam t l) m = sound-rename (g .log) l (s .log)
+    sound-act (change t l) m = sound-rename [] l (logged-empty cs)
+
+  pub sound-tick : (t : ℕ) (g : Station) → Sound i cs g → Sound i cs (tick t g)
+  unfolding tick
+  sound-tick t g s = record { log = s .log; identity = identified-kept i g _ refl (λ e. ap (map (tickRequester t)) e) (s .identity) }
+
+  sound-step : (g : Station) (c : Call) → Among c cs → Sound i cs g → Sound i cs (step g c .station)
+  unfolding step
+  sound-step g c m s = sound-act (tick (readingOf c) g) (sound-tick (readingOf c) g s) c m
+
+  sound-run : (later-calls : List Call) → ((c : Call) → Among c later-calls → Among c cs) → (g : Station) → Sound i cs g → Sound i cs (run g later-calls)
+  unfolding run
+  sound-run [] f g s = s
+  sound-run (c ∷ rest) f g s = sound-run rest (λ x m. f x (later m)) (step g c .station) (sound-step g c (f c first) s)
+
+  sound-nobody : Sound i cs nobody
+  sound-nobody = record { log = logged-empty cs; identity = unnamed refl refl }
+
+  sound-setup : (l : List Address) → Sound i cs (setup i l .station)
+  unfolding setup
+  sound-setup l =
+      either After _ _ _ (λ _. sound-nobody)
+      (λ _. either After _ _ _ (λ _. sound-nobody) (λ h. record { log = logged-empty cs; identity = named refl (not-false _ h) }))
+
+pub always-sound : AlwaysSound
+always-sound = record {
+  at-setup = λ i l cs. sound-setup i cs l;
+  kept = λ i cs g c. sound-step i cs g c;
+  after = λ i l cs. sound-run i cs cs (λ c m. m) (setup i l .station) (sound-setup i cs l);
+}

@@ -1,0 +1,38 @@
+-- Demand 2, the events chosen and their order: what the choice of an element's next event gives. Claims about every log and request; their
+-- proof is in proofs/NextEvent.antt.
+-- Assumes nothing.
+use Prim.Native.Nat.{ℕ, _≤_, _<_}
+use mathlib.Core.Path.{_≡_}
+use mathlib.Core.Bool.{true, false}
+use mathlib.Core.List.{List}
+use mathlib.Core.Option.{none, some}
+use lib.ListN.{length}
+use Rattle.requests.specs.declared.Element.{Element}
+use Rattle.events.specs.declared.Entry.{Entry}
+use Rattle.events.specs.Conditions.{meets}
+use Rattle.model.specs.Model.{EventRequest}
+use Rattle.model.specs.Events.{nextEventPlace}
+
+-- a place of the log that the front element of a request may still give: "still logged, logged before acceptance, later than those already
+-- given"
+pub record Eligible (log : List Entry) (r : EventRequest) (p : ℕ) : Type 0 where
+  pub logged : p < length log
+  pub accepted : p < r .mark
+  pub later : r .start ≤ p
+
+-- "the oldest one .. that meets all conditions, until the limit is reached"
+pub record OldestMatch (log : List Entry) (r : EventRequest) (x : Element) (p : ℕ) : Type 0 where
+  pub limit : r .given < x .limit
+  pub eligible : Eligible log r p
+  pub matches : meets log (x .ty) (x .filter) p ≡ true
+  pub oldest : (q : ℕ) → Eligible log r q → q < p → meets log (x .ty) (x .filter) q ≡ false
+
+-- it is given, and no other; none is given exactly if the limit is reached or no eligible event meets the conditions
+pub record NextEvent : Type 0 where
+  pub given : (log : List Entry) (r : EventRequest) (x : Element) (p : ℕ) → nextEventPlace log r x ≡ some p → OldestMatch log r x p
+  pub only : (log : List Entry) (r : EventRequest) (x : Element) (p : ℕ) → OldestMatch log r x p → nextEventPlace log r x ≡ some p
+  pub none-left : (log : List Entry) (r : EventRequest) (x : Element) → nextEventPlace log r x ≡ none → r .given < x .limit
+      → (q : ℕ) → Eligible log r q → meets log (x .ty) (x .filter) q ≡ false
+  pub over : (log : List Entry) (r : EventRequest) (x : Element) → x .limit ≤ r .given → nextEventPlace log r x ≡ none
+  pub unmatched : (log : List Entry) (r : EventRequest) (x : Element) → ((q : ℕ) → Eligible log r q → meets log (x .ty) (x .filter) q ≡ false)
+      → nextEventPlace log r x ≡ none

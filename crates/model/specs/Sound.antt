@@ -1,0 +1,41 @@
+-- What holds of a station after every list of calls from setup on: where its log's entries and its identity come from. Its proof is in
+-- proofs/Sound.antt.
+-- Assumes nothing.
+use mathlib.Core.Path.{_≡_}
+use mathlib.Core.Bool.{true}
+use mathlib.Core.List.{List, [], map}
+use mathlib.Core.Option.{none, some}
+use Prim.Native.Nat.{ℕ}
+use Rattle.laws.specs.Among.{Among}
+use Rattle.octets.specs.Times.{goodTime}
+use Rattle.events.specs.declared.Entry.{Entry}
+use Rattle.events.specs.Loggings.{Logging, entryFor}
+use Rattle.identities.specs.Identity.{goodIdentity}
+use Rattle.model.specs.Model.{Address, Station, Call, logging}
+use Rattle.model.specs.Stations.{setup, step}
+use Rattle.model.specs.Runs.{run}
+
+abbrev pub loggingCall : Logging → Call
+loggingCall x = logging (x .reading) (x .transition)
+
+-- a log whose entries, oldest first, were left by some of the calls, each with a good time
+pub record LoggedBy (cs : List Call) (log : List Entry) : Type 0 where
+  pub list : List Logging
+  pub is : log ≡ map entryFor list
+  pub called : (x : Logging) → Among x list → Among (loggingCall x) cs
+  pub timed : (x : Logging) → Among x list → goodTime (x .transition .time) ≡ true
+
+-- a station that setup was given the identity i for: it has it, and it is a good one; or it has none, and no requester
+pub data Identified (i : List ℕ) (g : Station) : Type 0 where
+  named : g .identity ≡ some i → goodIdentity i ≡ true → Identified i g
+  unnamed : g .identity ≡ none → g .requesters ≡ [] → Identified i g
+
+pub record Sound (i : List ℕ) (cs : List Call) (g : Station) : Type 0 where
+  pub log : LoggedBy cs (g .log)
+  pub identity : Identified i g
+
+-- setup gives it, every call of the list keeps it, and so it holds after the list
+pub record AlwaysSound : Type 0 where
+  pub at-setup : (i : List ℕ) (l : List Address) (cs : List Call) → Sound i cs (setup i l .station)
+  pub kept : (i : List ℕ) (cs : List Call) (g : Station) (c : Call) → Among c cs → Sound i cs g → Sound i cs (step g c .station)
+  pub after : (i : List ℕ) (l : List Address) (cs : List Call) → Sound i cs (run (setup i l .station) cs)
