@@ -28,8 +28,8 @@ use Rattle.model.specs.Events.{eventTreatment, openEvents, takeEvents, nextEven
 use Rattle.model.specs.Diagnostics.{diagnosticTreatment, isLate, onTime, unlessOver, dropLate, holdsCancel, diagnosticsOf, takeDiagnostics, diagnosticReport, nextDiagnostic}
 use Rattle.model.specs.Stations.{setup, tickRequester, tick, logRequester, logEntry, logCall, withRequester, serveFound, serveListed, takeKind, takeRequest, requestCall, frameCall, giveEvents, giveDiagnostics, ifOutstanding, octetsOf, giveKind, giveReport, reportCall, act, readingOf, step}
 use Rattle.model.specs.Runs.{run}
-use Rattle.laws.specs.Among.{Among, first, later}
-use Rattle.laws.proofs.Among.{among-none}
+use Rattle.laws.specs.Members.{Among, first, later}
+use Rattle.laws.proofs.Members.{among-none}
 use Rattle.laws.proofs.Choice.{never}
 use Rattle.events.specs.Loggings.{Logging, TransitionLengths}
 use Rattle.model.specs.Sound.{loggingCall}

@@ -8,9 +8,9 @@ use mathlib.Core.Option.{Option, none, some, Option·some-injective}
 use native.Mathlib.Omega.{arith}
 use native.Mathlib.Nat.{le-of-suc-le-suc, not-suc-le-zero}
 use lib.ListN.{length, getD}
-use Rattle.laws.specs.Among.{Among, first, later}
+use Rattle.laws.specs.Members.{Among, first, later}
 use Rattle.laws.specs.Choice.{if_then_else_}
-use Rattle.laws.proofs.Among.{among-map}
+use Rattle.laws.proofs.Members.{among-map, all-among}
 use Rattle.laws.proofs.Choice.{either, never}
 use Rattle.octets.specs.declared.numbers.Kind.{Kind}
 use Rattle.octets.specs.declared.numbers.Kind.the-variants.{Event, Diagnostic}
@@ -71,11 +71,11 @@ module _ (i : List ℕ) (cs : List Call) (whole : WellFormed cs) (log : List Ent
   unfolding contentOctets
   event-tell token place h =
       let r = entry-at (j .list) place pastLog (omega (arith, ap length (j .is))) in
-      let m = j .called (r .0) (r .1) in
+      let m = all-among (j .called) (r .1) in
       record {
         content = loggedEvent token (r .0);
         octets = ap (eventElement token) (ap (λ (l : List Entry). getD l place pastLog) (j .is) ∙ r .2);
-        good = ((whole (r .0) m, j .timed (r .0) (r .1)), (m, among-entries (j .list) log (j .is) (r .0) (r .1)));
+        good = ((whole (r .0) m, all-among (j .timed) (r .1)), (m, among-entries (j .list) log (j .is) (r .0) (r .1)));
       }
 
   place-within : (r : EventRequest) (x : Element) (place : ℕ) → nextEventPlace log r x ≡ some place → place < length log

@@ -9,10 +9,9 @@ use native.Mathlib.Omega.{arith}
 use lib.ListN.{length, length-append}
 use lib.Dec.{leb}
 use borrow.Author.Tests.{leb-true}
-use Rattle.laws.specs.Among.{Among}
+use Rattle.laws.specs.Members.{All, nil, also}
 use Rattle.laws.specs.Choice.{if_then_else_}
 use Rattle.laws.specs.Buffers.{pieces}
-use Rattle.laws.proofs.Among.{among-none, among-front}
 use Rattle.laws.proofs.Pieces.{pieces-from}
 use Rattle.laws.proofs.Choice.{either}
 use Rattle.octets.specs.declared.numbers.Kind.{Kind}
@@ -31,12 +30,12 @@ pub record Filled {R : Type 0} (kind : Kind) (next : R → Option (Piece R)) (Go
   pub contents : List (Content kind)
   pub gives : Gives kind next r contents (p .rest)
   pub octets : p .octets ≡ pieces (λ _ x. contentOctets kind x) 0 contents
-  pub good : (x : Content kind) → Among x contents → Good x
+  pub good : All Good contents
 
 module _ {R : Type 0} (kind : Kind) (next : R → Option (Piece R)) (Good : Content kind → Type 0) where
   none-told : (r : R) → Filled kind next Good r (nothingMore r)
   unfolding pieces
-  none-told r = record { contents = []; gives = over; octets = refl; good = λ x m. among-none m }
+  none-told r = record { contents = []; gives = over; octets = refl; good = nil }
 
   one-told : (r : R) (p : Piece R) → next r ≡ some p → Tells kind Good (p .octets) → (q : Piece R) → Filled kind next Good (p .rest) q → Filled kind next Good r (before (p .octets) q)
   unfolding pieces
@@ -44,7 +43,7 @@ module _ {R : Type 0} (kind : Kind) (next : R → Option (Piece R)) (Good : Cont
     contents = x .content ∷ f .contents;
     gives = gives (e ∙ ap (λ (o : List ℕ). some (record { octets = o; rest = p .rest })) (x .octets)) (f .gives);
     octets = rw (x .octets, f .octets) (ap (λ (o : List ℕ). contentOctets kind (x .content) ++ o) (pieces-from (contentOctets kind) 0 1 (f .contents)));
-    good = among-front Good (x .content) (x .good) (f .contents) (f .good);
+    good = also (x .good) (f .good);
   }
 
   module _ (tells : (r : R) (p : Piece R) → next r ≡ some p → Tells kind Good (p .octets)) where

@@ -12,6 +12,7 @@ use borrow.Author.Tests.{ltb-false}
 use Rattle.laws.specs.Choice.{if_then_else_}
 use Rattle.laws.specs.Buffers.{onto, pieces}
 use Rattle.laws.proofs.Choice.{either, never}
+use Rattle.laws.proofs.Members.{all-weaken}
 use Rattle.octets.specs.declared.numbers.Kind.{Kind}
 use Rattle.octets.specs.declared.numbers.Kind.the-variants.{Event, Diagnostic}
 use Rattle.octets.specs.Numbers.{category, reportAction, longestFrame, reportBuffer}
@@ -66,10 +67,10 @@ module _ {R : Type 0} (i : List ℕ) (cs : List Call) (g : Station) (kind : Kind
         contents = filled .contents;
         found = found;
         chosen = chosen (filled .contents) _ (filled .gives);
-        truthful = λ x m. filled .good x m .1;
+        truthful = all-weaken (λ x p. p .1) (filled .contents) (filled .good);
         whole = ap length t ∙ l;
         wrote = t ∙ frame-is;
-        read = λ d single. rw (t, frame-is) (report-round-trip kind dialog (filled .contents) (λ x m. filled .good x m .0) (rw frame-is at (frame-fits few)) d single);
+        read = λ d single. rw (t, frame-is) (report-round-trip kind dialog (filled .contents) (all-weaken (λ x p. p .0) (filled .contents) (filled .good)) (rw frame-is at (frame-fits few)) d single);
       }
 
 -- ---- the call

@@ -1,1 +1,3 @@
 pub mod StationRoundTrip
+pub mod Chains
+pub mod Demands

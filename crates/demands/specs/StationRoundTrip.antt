@@ -7,7 +7,7 @@ use mathlib.Core.Bool.{false}
 use mathlib.Core.List.{List, [], _∷_}
 use mathlib.Core.Option.{Option, some}
 use lib.ListN.{length, take}
-use Rattle.laws.specs.Among.{Among}
+use Rattle.laws.specs.Members.{Among, All}
 use Rattle.octets.specs.declared.numbers.Kind.{Kind}
 use Rattle.octets.specs.declared.numbers.Kind.the-variants.{Event, Diagnostic}
 use Rattle.octets.specs.Numbers.{successful}
@@ -58,7 +58,7 @@ pub record RoundTrip (i : List ℕ) (cs : List Call) (g : Station) (a : Address)
   pub contents : List (Content kind)
   pub found : find a (g .requesters) ≡ some requester
   pub chosen : Chosen g requester kind dialog contents
-  pub truthful : (x : Content kind) → Among x contents → Truthful i cs (g .log) kind x
+  pub truthful : All (Truthful i cs (g .log) kind) contents
   pub whole : length (take n buffer) ≡ n
   pub wrote : take n buffer ≡ contentFrame kind dialog contents
   pub read : (d : Address) → isGroup d ≡ false → ReadAs d (take n buffer) kind dialog contents

@@ -1,11 +1,65 @@
-// The statement that a report call's frame is read back to what was logged is in specs/, its proof
-// in proofs/. It asks of each logged transition that its fields have their lengths.
+// The three demands, stated in specs/ and proved in proofs/: of the model, and of the code for every
+// chain of calls that the station's contracts allow. The functions here are the links of such a
+// chain: each makes one call, and its contract is the chain's.
 use events::Transition;
-ghost use Rattle.events.specs.Loggings.{TransitionLengths};
+use octets::Kind;
+use station::Outcome;
+use station::Station;
+use units::Milliseconds;
+ghost use mathlib.Core.List.{[]};
+ghost use Rattle.model.specs.Model.{clock, logging, frame, report as Model·report, roam as Model·roam, change};
+ghost use Rattle.demands.specs.Chains.{Allowed, SetUp};
 
-// Every transition that code can hold has them.
-pub fn is_whole(t: Transition) -> bool
-    ensures { λ r. ⌜ TransitionLengths t ⌝ }
+pub fn setup(identity: &[u8], list: &[[u8; 6]]) -> Outcome
+    ensures { λ r. ⌜ SetUp (now (identity .entry)) (now (list .entry)) r ⌝ }
 {
-    true
+    Station::setup(identity, list)
+}
+
+pub fn tick(g: Station, reading: Milliseconds) -> Outcome
+    ensures { λ r. ⌜ Allowed g (record { call = clock (reading .0); outcome = r; buffer = [] }) ⌝ }
+{
+    g.tick(reading)
+}
+
+pub fn log_transition(g: Station, reading: Milliseconds, t: Transition) -> Outcome
+    ensures { λ r. ⌜ Allowed g (record { call = logging (reading .0) t; outcome = r; buffer = [] }) ⌝ }
+{
+    g.log_transition(reading, t)
+}
+
+pub fn take_frame(
+    g: Station,
+    reading: Milliseconds,
+    destination: [u8; 6],
+    source: [u8; 6],
+    o: &[u8],
+) -> Outcome
+    ensures { λ r. ⌜ Allowed g (record { call = frame (reading .0) destination source (now (o .entry)); outcome = r; buffer = [] }) ⌝ }
+{
+    g.take_frame(reading, destination, source, o)
+}
+
+pub fn report(
+    g: Station,
+    reading: Milliseconds,
+    source: [u8; 6],
+    kind: Kind,
+    buf: &mut [u8],
+) -> Outcome
+    ensures { λ r. ⌜ Allowed g (record { call = Model·report (reading .0) source kind (now (buf .entry)); outcome = r; buffer = now (buf .exit) }) ⌝ }
+{
+    g.report(reading, source, kind, buf)
+}
+
+pub fn roam(g: Station, reading: Milliseconds, list: &[[u8; 6]]) -> Outcome
+    ensures { λ r. ⌜ Allowed g (record { call = Model·roam (reading .0) (now (list .entry)); outcome = r; buffer = [] }) ⌝ }
+{
+    g.roam(reading, list)
+}
+
+pub fn change_network(g: Station, reading: Milliseconds, list: &[[u8; 6]]) -> Outcome
+    ensures { λ r. ⌜ Allowed g (record { call = change (reading .0) (now (list .entry)); outcome = r; buffer = [] }) ⌝ }
+{
+    g.change_network(reading, list)
 }

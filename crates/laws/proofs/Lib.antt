@@ -5,4 +5,4 @@ pub mod Parts
 pub mod Buffers
 pub mod Pieces
 pub mod Arrays
-pub mod Among
+pub mod Members

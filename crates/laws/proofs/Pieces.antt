@@ -7,7 +7,7 @@ use lib.ListN.{length, getD, drop, length-append, drop-of-length-le}
 use lib.Seq.{drop-cons}
 use native.Mathlib.Numerals.{add-one}
 use native.Mathlib.Omega.{arith}
-use Rattle.laws.specs.Among.{Among, first, later}
+use Rattle.laws.specs.Members.{All, nil, also}
 use Rattle.laws.specs.Buffers.{pieces}
 use Rattle.laws.proofs.Parts.{stands-behind}
 
@@ -38,10 +38,10 @@ unfoldable pub Each : {P : Type 0} → (List P → P → Type 0) → List P → 
 Each F front [] = Unit {0}
 Each F front (p ∷ ps) = F front p × Each F (front ++ (p ∷ [])) ps
 
-pub each-among : {P : Type 0} (F : P → Type 0) (front ps : List P) → ((p : P) → Among p ps → F p) → Each (λ _ p. F p) front ps
+pub each-all : {P : Type 0} (F : P → Type 0) (front ps : List P) → All F ps → Each (λ _ p. F p) front ps
 unfolding Each
-each-among F front [] f = tt
-each-among F front (p ∷ ps) f = (f p first, each-among F (front ++ (p ∷ [])) ps (λ q m. f q (later m)))
+each-all F front [] f = tt
+each-all F front (p ∷ ps) (also f fs) = (f, each-all F (front ++ (p ∷ [])) ps fs)
 
 -- what holds at a position behind some pieces, and what each piece carries on, holds at the end
 module _ {P : Type 0} (f : ℕ → P → List ℕ) (s : List ℕ) (end : ℕ) (Fine : List P → P → Type 0) (Left : ℕ → List P → Type 0)

@@ -1,4 +1,4 @@
 pub mod Choice
 pub mod Walk
 pub mod Buffers
-pub mod Among
+pub mod Members

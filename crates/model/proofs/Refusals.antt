@@ -8,9 +8,9 @@ use mathlib.Core.Option.{Option, none, some, Option·some-injective}
 use lib.Dec.{eqb}
 use borrow.Author.Tests.{eqb-false, not-true}
 use native.Mathlib.Omega.{arith}
-use Rattle.laws.specs.Among.{Among, first, later}
+use Rattle.laws.specs.Members.{Among, first, later}
 use Rattle.laws.specs.Choice.{if_then_else_}
-use Rattle.laws.proofs.Among.{among-at-most, among-behind}
+use Rattle.laws.proofs.Members.{among-at-most, among-behind}
 use Rattle.laws.proofs.Choice.{either, never}
 use Rattle.octets.specs.declared.numbers.Kind.{Kind}
 use Rattle.octets.specs.declared.numbers.Kind.the-variants.{Event, Diagnostic}

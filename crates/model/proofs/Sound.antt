@@ -9,9 +9,9 @@ use native.Mathlib.Omega.{arith}
 use lib.ListN.{length, drop}
 use lib.Dec.{ltb}
 use borrow.Author.Tests.{not-false}
-use Rattle.laws.specs.Among.{Among, first, later}
+use Rattle.laws.specs.Members.{Among, first, later, All, nil, also}
 use Rattle.laws.specs.Choice.{if_then_else_}
-use Rattle.laws.proofs.Among.{among-none, among-end}
+use Rattle.laws.proofs.Members.{all-end}
 use Rattle.laws.proofs.Choice.{either, never}
 use Rattle.octets.specs.Times.{goodTime}
 use Rattle.events.specs.declared.Entry.{Entry}
@@ -29,21 +29,21 @@ use Rattle.model.specs.Sound.{loggingCall, LoggedBy, Identified, named, 
 
 module _ (cs : List Call) where
   logged-empty : LoggedBy cs []
-  logged-empty = record { list = []; is = refl; called = λ x m. among-none m; timed = λ x m. among-none m }
+  logged-empty = record { list = []; is = refl; called = nil; timed = nil }
 
   logged-less : (log : List Entry) → LoggedBy cs log → LoggedBy cs (drop 1 log)
   logged-less log j = go (j .list) (j .is) (j .called) (j .timed)
     where
-      go : (xs : List Logging) → log ≡ map entryFor xs → ((x : Logging) → Among x xs → Among (loggingCall x) cs) → ((x : Logging) → Among x xs → goodTime (x .transition .time) ≡ true) → LoggedBy cs (drop 1 log)
+      go : (xs : List Logging) → log ≡ map entryFor xs → All (λ x. Among (loggingCall x) cs) xs → All (λ x. goodTime (x .transition .time) ≡ true) xs → LoggedBy cs (drop 1 log)
       go [] e f t = rw e logged-empty
-      go (y ∷ xs) e f t = record { list = xs; is = ap (drop 1) e; called = λ x m. f x (later m); timed = λ x m. t x (later m) }
+      go (y ∷ xs) e (also f fs) (also t ts) = record { list = xs; is = ap (drop 1) e; called = fs; timed = ts }
 
   logged-more : (log : List Entry) (x : Logging) → LoggedBy cs log → Among (loggingCall x) cs → goodTime (x .transition .time) ≡ true → LoggedBy cs (log ++ (entryFor x ∷ []))
   logged-more log x j m t = record {
     list = j .list ++ (x ∷ []);
     is = ap (λ (l : List Entry). l ++ (entryFor x ∷ [])) (j .is) ∙ sym (map-append entryFor (j .list) (x ∷ []));
-    called = among-end (λ (y : Logging). Among (loggingCall y) cs) x m (j .list) (j .called);
-    timed = among-end (λ (y : Logging). goodTime (y .transition .time) ≡ true) x t (j .list) (j .timed);
+    called = all-end (j .list) (j .called) m;
+    timed = all-end (j .list) (j .timed) t;
   }
 
   logged-pushed : (log : List Entry) (x : Logging) → LoggedBy cs log → Among (loggingCall x) cs → goodTime (x .transition .time) ≡ true → LoggedBy cs (pushed capacity log (entryFor x))

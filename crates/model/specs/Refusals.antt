@@ -4,7 +4,7 @@
 use Prim.Native.Nat.{ℕ, _<_}
 use mathlib.Core.Path.{_≡_}
 use mathlib.Core.List.{List, [], _∷_}
-use Rattle.laws.specs.Among.{Among}
+use Rattle.laws.specs.Members.{Among}
 use Rattle.octets.specs.declared.refusals.Refusal.{Refusal}
 use Rattle.octets.specs.Refusals.{noElement, groupDestination, unknownRequester, shortBuffer, timeField, requesterList, identity}
 use Rattle.requests.specs.Requests.{requestCauses}

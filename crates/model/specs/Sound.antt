@@ -6,7 +6,7 @@ use mathlib.Core.Bool.{true}
 use mathlib.Core.List.{List, [], map}
 use mathlib.Core.Option.{none, some}
 use Prim.Native.Nat.{ℕ}
-use Rattle.laws.specs.Among.{Among}
+use Rattle.laws.specs.Members.{Among, All}
 use Rattle.octets.specs.Times.{goodTime}
 use Rattle.events.specs.declared.Entry.{Entry}
 use Rattle.events.specs.Loggings.{Logging, entryFor}
@@ -22,8 +22,8 @@ loggingCall x = logging (x .reading) (x .transition)
 pub record LoggedBy (cs : List Call) (log : List Entry) : Type 0 where
   pub list : List Logging
   pub is : log ≡ map entryFor list
-  pub called : (x : Logging) → Among x list → Among (loggingCall x) cs
-  pub timed : (x : Logging) → Among x list → goodTime (x .transition .time) ≡ true
+  pub called : All (λ x. Among (loggingCall x) cs) list
+  pub timed : All (λ x. goodTime (x .transition .time) ≡ true) list
 
 -- a station that setup was given the identity i for: it has it, and it is a good one; or it has none, and no requester
 pub data Identified (i : List ℕ) (g : Station) : Type 0 where

@@ -8,14 +8,14 @@ use lib.ListN.{length, getD, take, drop, length-append, length-drop, length-map,
 use lib.Seq.{take-all, take-at, take-append-le, drop-append-le, drop-drop}
 use borrow.Author.Tests.{le-ltb, le-leb, ne-eqb, eq-eqb}
 use native.Mathlib.Omega.{arith}
-use Rattle.laws.specs.Among.{Among}
+use Rattle.laws.specs.Members.{All}
 use Rattle.laws.specs.Choice.{if_then_else_}
 use Rattle.units.specs.Time.{age, tusOf}
 use Rattle.octets.specs.Fields.{pair, pairAt, low, high}
 use Rattle.laws.specs.Buffers.{pieces}
 use Rattle.laws.proofs.Walk.{Rest, start, again, done, go-on, stop-end}
 use Rattle.laws.proofs.Parts.{stands-at, stands-first, stands-length, stands-behind}
-use Rattle.laws.proofs.Pieces.{Each, each-among, along}
+use Rattle.laws.proofs.Pieces.{Each, each-all, along}
 use Rattle.octets.specs.declared.numbers.Kind.{Kind}
 use Rattle.octets.specs.declared.numbers.Kind.the-variants.{Event, Diagnostic}
 use Rattle.octets.specs.Numbers.{category, reportAction, reportId, successful, longestFrame}
@@ -327,12 +327,12 @@ module _ (kind : Kind) (dialog : ℕ) (xs : List (Content kind)) where
       again _ l (go-on 0 at (length frame) refl (omega (arith, content-some kind x))) (omega (arith, content-some kind x))
       (rw (f .step, f .behind, map-append (contentRead kind) front (x ∷ [])))
 
-  module _ (may : (x : Content kind) → Among x xs → Valid kind x) where
+  module _ (may : All (Valid kind) xs) where
     elements-back : readElements frame kind ≡ reading noRefusal (length frame) (map (contentRead kind) xs)
     unfolding readElements
     elements-back =
         sym (done
-        (along (λ _ x. contentOctets kind x) frame (length frame) (λ _ x. Valid kind x) Left left xs [] 3 0 [] refl (each-among (Valid kind) [] xs may) (sym (append-nil _)) (omega arith)
+        (along (λ _ x. contentOctets kind x) frame (length frame) (λ _ x. Valid kind x) Left left xs [] 3 0 [] refl (each-all (Valid kind) [] xs may) (sym (append-nil _)) (omega arith)
         (start _ _ (length frame) _ _ (omega arith)))
         (stop-end 0 (length frame) (length frame) refl (omega arith)))
 

@@ -6,7 +6,7 @@ use mathlib.Core.Path.{_≡_}
 use mathlib.Core.Bool.{true, false}
 use mathlib.Core.List.{List, [], _∷_, _++_, map}
 use lib.ListN.{length}
-use Rattle.laws.specs.Among.{Among}
+use Rattle.laws.specs.Members.{All}
 use Rattle.laws.specs.Buffers.{pieces}
 use Rattle.octets.specs.declared.numbers.Kind.{Kind}
 use Rattle.octets.specs.declared.numbers.Kind.the-variants.{Event, Diagnostic}
@@ -81,6 +81,5 @@ pub record ReadAs (d f : List ℕ) (kind : Kind) (dialog : ℕ) (xs : List (Cont
 
 abbrev pub ReportRoundTrip : Type 0
 ReportRoundTrip =
-    (kind : Kind) (dialog : ℕ) (xs : List (Content kind)) → ((x : Content kind) → Among x xs → Valid kind x)
-    → length (contentFrame kind dialog xs) ≤ longestFrame
+    (kind : Kind) (dialog : ℕ) (xs : List (Content kind)) → All (Valid kind) xs → length (contentFrame kind dialog xs) ≤ longestFrame
     → (d : List ℕ) → isGroup d ≡ false → ReadAs d (contentFrame kind dialog xs) kind dialog xs

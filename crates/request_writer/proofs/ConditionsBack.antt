@@ -21,10 +21,10 @@ use Rattle.octets.proofs.ElementLaws.{piece-stands}
 use Rattle.subelements.specs.declared.Condition.{Condition}
 use Rattle.subelements.specs.declared.Subelements.{Subelements}
 use Rattle.subelements.specs.Subelements.{lengthOf, bodyOctet, bodyAt, absent, noFilter, pastFilter, past, wholeStep, step, more}
-use Rattle.requests.proofs.Found.{All, also}
+use Rattle.laws.specs.Members.{All, also}
 use Rattle.request_writer.specs.Frames.{conditionOctets}
 use Rattle.request_writer.specs.ReadBack.{readCondition, readFilter, present}
-use Rattle.request_writer.proofs.Shapes.{Six}
+use Rattle.request_writer.specs.ReadBack.{SixOctets}
 
 abbrev pub atSubelements : ℕ → ℕ → List Condition → Subelements
 atSubelements at n f = record { refusal = noRefusal; at = at; count = n; filter = f }
@@ -91,7 +91,7 @@ module _ (s : List ℕ) (end : ℕ) (whole : Subelements) where
   Left at n f = Rest (more end) (step s 5 end) whole (end - at) (atSubelements at n f)
 
   -- the walk behind the condition c of an ID
-  one-back : (c : Condition) (front : List Condition) (at n id : ℕ) (r : List ℕ) → length front ≡ id → id < 5 → Six c
+  one-back : (c : Condition) (front : List Condition) (at n id : ℕ) (r : List ℕ) → length front ≡ id → id < 5 → SixOctets c
       → drop at s ≡ conditionOctets id c ++ r → at + length (conditionOctets id c) ≤ end
       → Left at n (front ++ drop id noFilter)
       → Left (at + length (conditionOctets id c)) (n + (if c .present then 1 else 0)) ((front ++ (readCondition id c ∷ [])) ++ drop (suc id) noFilter)
@@ -124,7 +124,7 @@ module _ (s : List ℕ) (end : ℕ) (whole : Subelements) where
           = leave-next front noFilter pastFilter id e small ∙ rw (blank-condition id small) in
           rw (p, q, ← filled) left
 
-  pub conditions-back : (cs front : List Condition) (at n id : ℕ) (r : List ℕ) → All Six cs → length front ≡ id → id + length cs ≡ 5
+  pub conditions-back : (cs front : List Condition) (at n id : ℕ) (r : List ℕ) → All SixOctets cs → length front ≡ id → id + length cs ≡ 5
       → drop at s ≡ pieces conditionOctets id cs ++ r → at + length (pieces conditionOctets id cs) ≡ end
       → Left at n (front ++ drop id noFilter)
       → whole ≡ atSubelements end (n + present cs) (front ++ readFilter id cs)

@@ -28,11 +28,10 @@ use Rattle.octets.proofs.FieldLaws.{pair-halves}
 use Rattle.subelements.specs.Subelements.{noFilter, walked, walk}
 use Rattle.requests.specs.declared.Element.{Element}
 use Rattle.requests.specs.Elements.{Elements, leastBody, limitAt, timeoutAt, subelementsOf, blankElements, pastElements, hasToken, badToken, withElement, ownStep, elementStep, more}
-use Rattle.requests.proofs.Found.{All, also}
+use Rattle.laws.specs.Members.{All, also}
 use Rattle.request_writer.specs.Frames.{filterOctets, elementBody, elementOctets}
 use Rattle.request_writer.specs.Writer.{tokenRefusal}
-use Rattle.request_writer.specs.ReadBack.{present, readFilter, readElement}
-use Rattle.request_writer.proofs.Shapes.{Shaped}
+use Rattle.request_writer.specs.ReadBack.{ElementLengths, present, readFilter, readElement}
 use Rattle.request_writer.proofs.ConditionsBack.{atSubelements, conditions-back}
 
 abbrev pub atElements : ℕ → ℕ → List Element → Elements
@@ -75,7 +74,7 @@ module _ (s : List ℕ) (at : ℕ) (e : Element) (r : List ℕ) where
       rw (p, stands-at s at (elementOctets Diagnostic e) r h 4 0, stands-at s at (elementOctets Diagnostic e) r h 5 0) (pair-halves (e .timeout))
 
   -- its subelements
-  subelements-back : (kind : Kind) (end : ℕ) → Stands kind → Shaped e → end ≡ at + length (elementOctets kind e)
+  subelements-back : (kind : Kind) (end : ℕ) → Stands kind → ElementLengths e → end ≡ at + length (elementOctets kind e)
       → subelementsOf s kind at end ≡ atSubelements end (readElement kind e .subs) (readElement kind e .filter)
   unfolding subelementsOf elementOctets elementBody readElement walk if_then_else_
   subelements-back Event end h shaped ends = rw (type-at Event h) (go (eqb (e .ty) 0) h ends)
@@ -87,7 +86,7 @@ module _ (s : List ℕ) (at : ℕ) (e : Element) (r : List ℕ) where
           → (if t then walk s 5 (at + 5) end else walked noRefusal end)
           ≡ atSubelements end (if t then present (e .filter) else 0) (if t then readFilter 0 (e .filter) else noFilter)
       go true h ends =
-          conditions-back s end (walk s 5 (at + 5) end) (e .filter) [] (at + 5) 0 0 r (shaped .six) refl (zero-add _ ∙ shaped .five)
+          conditions-back s end (walk s 5 (at + 5) end) (e .filter) [] (at + 5) 0 0 r (shaped .octets) refl (zero-add _ ∙ shaped .filter)
           (stands-behind s at (78 ∷ length (body true) ∷ e .token ∷ e .ty ∷ e .limit ∷ []) (filterOctets (e .filter) ++ r) h (at + 5) refl)
           (omega arith)
           (start _ _ end _ _ (omega arith))
@@ -113,7 +112,7 @@ module _ (s : List ℕ) (at : ℕ) (e : Element) (r : List ℕ) where
   fields-back Diagnostic = refl
 
   -- one step over it
-  step-back : (kind : Kind) (n : ℕ) (es : List Element) → Stands kind → Shaped e → n < 8 → badToken kind (take n es) (e .token) ≡ false
+  step-back : (kind : Kind) (n : ℕ) (es : List Element) → Stands kind → ElementLengths e → n < 8 → badToken kind (take n es) (e .token) ≡ false
       → elementStep s kind (atElements at n es) ≡ atElements (at + length (elementOctets kind e)) (n + 1) (set es n (readElement kind e))
   unfolding elementStep ownStep withElement elementOctets if_then_else_
   step-back kind n es h shaped few good =
@@ -175,7 +174,7 @@ module _ (kind : Kind) (s : List ℕ) (whole : Elements) where
   abbrev Read : ℕ → List Element → List Element
   Read n front = map (readElement kind) front ++ drop n blankElements
 
-  pub elements-back : (es front : List Element) (at n : ℕ) → All Shaped es → length front ≡ n → n + length es ≤ 8 → tokenRefusal kind front es .number ≡ 0
+  pub elements-back : (es front : List Element) (at n : ℕ) → All ElementLengths es → length front ≡ n → n + length es ≤ 8 → tokenRefusal kind front es .number ≡ 0
       → drop at s ≡ octetsFrom n es → at + length (octetsFrom n es) ≡ length s
       → Rest (more s) (elementStep s kind) whole (length s - at) (atElements at n (Read n front))
       → whole ≡ atElements (length s) (n + length es) (Read (n + length es) (front ++ es))

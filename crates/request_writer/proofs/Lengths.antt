@@ -15,9 +15,9 @@ use Rattle.octets.specs.Elements.{framed}
 use Rattle.subelements.specs.declared.Condition.{Condition}
 use Rattle.subelements.specs.Subelements.{lengthOf}
 use Rattle.requests.specs.declared.Element.{Element}
-use Rattle.requests.proofs.Found.{All, also}
+use Rattle.laws.specs.Members.{All, also}
 use Rattle.request_writer.specs.Frames.{conditionOctets, filterOctets, elementBody, elementOctets}
-use Rattle.request_writer.proofs.Shapes.{Shaped}
+use Rattle.request_writer.specs.ReadBack.{ElementLengths}
 
 -- ---- conditions
 
@@ -59,8 +59,8 @@ element-length Event e five =
     (λ _. omega (arith, filter-length (e .filter) five)) (λ _. omega arith)
 element-length Diagnostic e five = omega arith
 
-pub elements-length : (kind : Kind) (i : ℕ) (es : List Element) → All Shaped es → length (pieces (λ (k : ℕ) (e : Element). elementOctets kind e) i es) ≤ 33 * length es
+pub elements-length : (kind : Kind) (i : ℕ) (es : List Element) → All ElementLengths es → length (pieces (λ (k : ℕ) (e : Element). elementOctets kind e) i es) ≤ 33 * length es
 unfolding pieces
 elements-length kind i [] shapes = omega arith
 elements-length kind i (e ∷ es) (also shape shapes) =
-    omega (arith, length-append (elementOctets kind e) (pieces (λ (k : ℕ) (x : Element). elementOctets kind x) (suc i) es), element-length kind e (shape .five), elements-length kind (suc i) es shapes)
+    omega (arith, length-append (elementOctets kind e) (pieces (λ (k : ℕ) (x : Element). elementOctets kind x) (suc i) es), element-length kind e (shape .filter), elements-length kind (suc i) es shapes)

@@ -11,6 +11,8 @@ use borrow.Author.Tests.{le-ltb, eq-eqb, eqb-true, eqb-false, ltb-false, not-tru
 use native.Mathlib.Nat.{zero-add}
 use native.Mathlib.Omega.{arith}
 use Rattle.laws.specs.Choice.{if_then_else_}
+use Rattle.laws.specs.Members.{All}
+use Rattle.laws.proofs.Members.{all-take}
 use Rattle.laws.proofs.Choice.{either}
 use Rattle.laws.proofs.Walk.{start}
 use Rattle.octets.specs.declared.numbers.Kind.{Kind}
@@ -22,12 +24,10 @@ use Rattle.requests.specs.declared.Element.{Element}
 use Rattle.requests.specs.declared.Request.{Request}
 use Rattle.requests.specs.Elements.{walkElements}
 use Rattle.requests.specs.Requests.{refusedRequest, lacksElement, requestOf, kindOf, headerCause, readRequest}
-use Rattle.requests.proofs.Found.{All}
 use Rattle.request_writer.specs.declared.Written.{Written}
 use Rattle.request_writer.specs.Frames.{frameOctets}
 use Rattle.request_writer.specs.Writer.{placeBehind, refusedWritten, writtenLength, tokenRefusal, elementsAnswer, frameAnswer, writeAnswer, writeOctets, Outcome, outcome, writeRequest}
-use Rattle.request_writer.specs.ReadBack.{readBack, echoed}
-use Rattle.request_writer.proofs.Shapes.{Shaped, all-take}
+use Rattle.request_writer.specs.ReadBack.{ElementLengths, readBack, RequestRoundTrip, echoed}
 use Rattle.request_writer.proofs.Lengths.{elements-length}
 use Rattle.request_writer.proofs.ElementsBack.{atElements, elements-back}
 
@@ -78,7 +78,7 @@ module _ (kind : Kind) (es : List Element) (count : ℕ) where
         let e = elements-accepted (rw (f .same) at z) in
         record { fits = ltb-false _ _ fits; dialog-token = token; tokens = e .tokens; few = e .few; some = f .some; ends = ap (λ (w : Written). w .length) (f .same) ∙ e .ends }))
 
-module _ (kind : Kind) (dialog : ℕ) (es : List Element) (count : ℕ) (s : List ℕ) (eight : length es ≡ 8) (shapes : All Shaped es)
+module _ (kind : Kind) (dialog : ℕ) (es : List Element) (count : ℕ) (s : List ℕ) (eight : length es ≡ 8) (shapes : All ElementLengths es)
     (ok : writeAnswer kind dialog es count (length s) .refusal .number ≡ 0) where
   abbrev pub frame : List ℕ
   frame = frameOctets kind dialog (take count es)
@@ -126,8 +126,12 @@ module _ (kind : Kind) (dialog : ℕ) (es : List Element) (count : ℕ) (s : Lis
   unfolding readRequest requestOf frameOctets readBack if_then_else_
   frame-read = rw (frame-kind, frame-header, walk-back, a .some)
 
-  pub round-trip : readRequest (take (writeAnswer kind dialog es count (length s) .length) (writeOctets kind dialog es count s)) ≡ readBack kind dialog es count
-  round-trip = rw frame-written frame-read
+  read-back : readRequest (take (writeAnswer kind dialog es count (length s) .length) (writeOctets kind dialog es count s)) ≡ readBack kind dialog es count
+  read-back = rw frame-written frame-read
+
+-- What the writer writes, the reader reads back to the same fields.
+pub request-round-trip : RequestRoundTrip
+request-round-trip kind dialog es count s eight shapes ok = read-back kind dialog es count s eight shapes ok
 
 -- ---- written and then read
 
@@ -139,7 +143,7 @@ pub record Bounded (w : Written) : Type 0 where
 refused-bounded : (n p : ℕ) → Bounded (refusedWritten n p)
 refused-bounded n p = record { most = omega arith; refused-zero = λ _. refl }
 
-module _ (kind : Kind) (dialog : ℕ) (es : List Element) (count : ℕ) (shapes : All Shaped es) (eight : length es ≡ 8) where
+module _ (kind : Kind) (dialog : ℕ) (es : List Element) (count : ℕ) (shapes : All ElementLengths es) (eight : length es ≡ 8) where
   elements-bounded : Bounded (elementsAnswer kind es count)
   unfolding elementsAnswer
   elements-bounded =
@@ -170,5 +174,5 @@ module _ (kind : Kind) (dialog : ℕ) (es : List Element) (count : ℕ) (shapes 
       octets = ap (λ (o : Outcome). o .octets) wrote
 
       go : (t : Bool) → eqb (writeAnswer kind dialog es count (length s) .refusal .number) 0 ≡ t → r ≡ (if t then readBack kind dialog es count else refusedRequest frameLength 0)
-      go true q = read ∙ rw (len, octets) (round-trip kind dialog es count s eight shapes (eqb-true _ 0 q))
+      go true q = read ∙ rw (len, octets) (read-back kind dialog es count s eight shapes (eqb-true _ 0 q))
       go false q = read ∙ rw (len, answer-bounded (length s) .refused-zero (eqb-false _ 0 q))

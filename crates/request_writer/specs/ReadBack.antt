@@ -1,11 +1,14 @@
--- What the reader finds in a frame that the writer wrote: the same fields. What the kind or the type does not have is 0, or absent.
+-- Demand 2 for requests: what the reader finds in a frame that the writer wrote, the same fields. What the kind or the type does not have is
+-- 0, or absent. The proof of the round trip is in proofs/RoundTrip.antt.
 -- Assumes nothing.
 use Prim.Native.Nat.{ℕ, suc, _+_}
+use mathlib.Core.Path.{_≡_}
 use mathlib.Core.Bool.{true}
 use mathlib.Core.List.{List, [], _∷_, _++_, map}
-use lib.ListN.{take, drop}
+use lib.ListN.{length, take, drop}
 use lib.Dec.{eqb}
 use Rattle.laws.specs.Choice.{if_then_else_}
+use Rattle.laws.specs.Members.{All}
 use Rattle.octets.specs.declared.numbers.Kind.{Kind}
 use Rattle.octets.specs.declared.numbers.Kind.the-variants.{Event, Diagnostic}
 use Rattle.octets.specs.Refusals.{noRefusal, frameLength}
@@ -14,9 +17,9 @@ use Rattle.subelements.specs.declared.Condition.{Condition}
 use Rattle.subelements.specs.Subelements.{lengthOf, bodyAt, absent, noFilter}
 use Rattle.requests.specs.declared.Element.{Element}
 use Rattle.requests.specs.declared.Request.{Request}
-use Rattle.requests.specs.Elements.{blankElements}
-use Rattle.requests.specs.Requests.{refusedRequest}
-use Rattle.request_writer.specs.Writer.{writeAnswer}
+use Rattle.requests.specs.Elements.{mostElements, blankElements}
+use Rattle.requests.specs.Requests.{refusedRequest, readRequest}
+use Rattle.request_writer.specs.Writer.{writeAnswer, writeOctets}
 
 -- a condition: the octets of its length, 0 past them
 unfoldable pub readCondition : ℕ → Condition → Condition
@@ -52,6 +55,21 @@ readBack kind dialog es count = record {
   count = count;
   elements = map (readElement kind) (take count es) ++ drop count blankElements;
 }
+
+-- the lengths of the arrays inside an element, which code has by their types
+abbrev pub SixOctets : Condition → Type 0
+SixOctets c = length (c .octets) ≡ 6
+
+pub record ElementLengths (e : Element) : Type 0 where
+  pub filter : length (e .filter) ≡ 5
+  pub octets : All SixOctets (e .filter)
+
+-- for every input that the writer accepts, whatever the lent buffer s, the reader reads the octets written to the same fields
+abbrev pub RequestRoundTrip : Type 0
+RequestRoundTrip =
+    (kind : Kind) (dialog : ℕ) (es : List Element) (count : ℕ) (s : List ℕ) → length es ≡ mostElements → All ElementLengths es
+    → let answer = writeAnswer kind dialog es count (length s) in
+    answer .refusal .number ≡ 0 → readRequest (take (answer .length) (writeOctets kind dialog es count s)) ≡ readBack kind dialog es count
 
 -- written and then read: the request, or where the writer refuses, what an empty frame reads to
 unfoldable pub echoed : Kind → ℕ → List Element → ℕ → Request

@@ -3,8 +3,8 @@
 use Prim.Native.Nat.{ℕ}
 use mathlib.Core.Path.{refl}
 use mathlib.Core.List.{List, _∷_}
-use Rattle.laws.specs.Among.{Among, first}
-use Rattle.laws.proofs.Among.{among-test}
+use Rattle.laws.specs.Members.{Among, first}
+use Rattle.laws.proofs.Members.{among-test}
 use Rattle.laws.proofs.Choice.{either}
 use Rattle.laws.proofs.Walk.{keeps}
 use Rattle.octets.specs.declared.numbers.Kind.{Kind}

@@ -9,6 +9,8 @@ use lib.Seq.{getD-set-same, getD-set-other, getD-take}
 use lib.Dec.{eqb}
 use borrow.Author.Tests.{eqb-false, eqb-true, leb-false}
 use native.Mathlib.Omega.{arith}
+use Rattle.laws.specs.Members.{All, nil, also}
+use Rattle.laws.proofs.Members.{all-set}
 use Rattle.laws.proofs.Choice.{either}
 use Rattle.laws.proofs.Walk.{keeps}
 use Rattle.octets.specs.declared.numbers.Kind.{Kind}
@@ -23,23 +25,6 @@ use Rattle.requests.specs.declared.Request.{Request}
 use Rattle.requests.specs.Elements.{blankElement, blankElements, pastElements, limitAt, timeoutAt, subelementsOf, hasToken, badToken, zeroToken, Elements, started, withElement, ownStep, elementStep, walkElements}
 use Rattle.requests.specs.Requests.{requestOf, kindOf, readRequest}
 use Rattle.requests.proofs.Laws.{subelements-few}
-
--- ---- general: what each element of a list has
-
-pub data All {A : Type 0} (P : A → Type 0) : List A → Type 0 where
-  none : All P []
-  also : {x : A} {xs : List A} → P x → All P xs → All P (x ∷ xs)
-
-module _ {A : Type 0} {P : A → Type 0} where
-  pub all-set : (xs : List A) (i : ℕ) (x : A) → All P xs → P x → All P (set xs i x)
-  all-set [] i x p q = none
-  all-set (y ∷ ys) zero x (also p ps) q = also q ps
-  all-set (y ∷ ys) (suc i) x (also p ps) q = also p (all-set ys i x ps q)
-
-  pub all-at : (xs : List A) (d : A) (i : ℕ) → All P xs → P d → P (getD xs i d)
-  all-at [] d i p q = q
-  all-at (y ∷ ys) d zero (also p ps) q = p
-  all-at (y ∷ ys) d (suc i) (also p ps) q = all-at ys d i ps q
 
 -- ---- from the walk to the request: what the walk keeps, and the start has, the request has
 
@@ -152,18 +137,18 @@ pub record Ranged (e : Element) : Type 0 where
 no-filter : All Octets noFilter
 no-filter =
     let z : 0 < 256 = omega arith in
-    let c : Octets absent = also z (also z (also z (also z (also z (also z none))))) in
-    also c (also c (also c (also c (also c none))))
+    let c : Octets absent = also z (also z (also z (also z (also z (also z nil))))) in
+    also c (also c (also c (also c (also c nil))))
 
 blank-ranged : All Ranged blankElements
 blank-ranged =
     let e : Ranged blankElement = record { token = omega arith; ty = omega arith; limit = omega arith; subs = omega arith; timeout = omega arith; filter = no-filter } in
-    also e (also e (also e (also e (also e (also e (also e (also e none)))))))
+    also e (also e (also e (also e (also e (also e (also e (also e nil)))))))
 
 module _ (s : List ℕ) (octets : (i : ℕ) → getD s i 0 < 256) where
   body-octets : (at n : ℕ) → All (λ (o : ℕ). o < 256) (bodyAt s at n)
   unfolding bodyAt bodyOctet
-  body-octets at n = also (one 0) (also (one 1) (also (one 2) (also (one 3) (also (one 4) (also (one 5) none)))))
+  body-octets at n = also (one 0) (also (one 1) (also (one 2) (also (one 3) (also (one 4) (also (one 5) nil)))))
     where
       one : (k : ℕ) → bodyOctet s at n k < 256
       one k = either (λ (o : ℕ). o < 256) _ _ _ (λ _. octets (at + k)) (λ _. omega arith)

@@ -1,0 +1,105 @@
+-- The theorems about the model, carried to the code by induction over the chain.
+-- Assumes nothing.
+use Prim.Native.Nat.{ℕ}
+use mathlib.Core.Path.{_≡_, refl, sym, ap, _∙_}
+use mathlib.Core.List.{List, [], _∷_, map}
+use mathlib.Core.Option.{Option, none, some}
+use Rattle.laws.specs.Members.{Among, first, later}
+use Rattle.laws.proofs.Members.{among-none}
+use Rattle.octets.specs.declared.numbers.Kind.{Kind}
+use Rattle.octets.specs.declared.refusals.Refusal.{Refusal}
+use Rattle.events.specs.Loggings.{Logging, TransitionLengths}
+use Rattle.model.specs.Model.{Address, Call, clock, report, Result, written, refused}
+use Rattle.model.specs.Model.{Station as Model·Station}
+use Rattle.model.specs.Stations.{setup, tick, readingOf, step}
+use Rattle.model.specs.Refusals.{lentBuffer}
+use Rattle.model.specs.Runs.{run, sender, Reply, reply, toSender}
+use Rattle.model.specs.Independence.{from, answers, freshAnswers}
+use Rattle.model.specs.Sound.{loggingCall}
+use Rattle.model.proofs.Refusals.{refused-call, refused-setup}
+use Rattle.model.proofs.Independence.{independent}
+use Rattle.station.specs.declared.Station.{Station}
+use Rattle.station.specs.declared.Outcome.{Outcome}
+use Rattle.station.specs.Views.{view, viewOutcome}
+use Rattle.demands.specs.StationRoundTrip.{WellFormed, RoundTrip}
+use Rattle.demands.specs.Chains.{Made, HandedIn, Allowed, Chain, none-made, made, SetUp}
+use Rattle.demands.specs.Demands.{CodeLeftAlone, Total, CodeLeftUnnamed, TotalSetup, callOf, Exact, replied, IndependentRequesters}
+use Rattle.demands.proofs.StationRoundTrip.{station-round-trip}
+
+-- ---- what an allowed call gives is what the model gives
+
+module _ {g : Station} {m : Made} (a : Allowed g m) where
+  station-is : view (m .outcome .station) ≡ step (view g) (m .call) .station
+  unfolding viewOutcome
+  station-is = ap (λ (x : Result). x .station) (a .contract)
+
+  answer-is : viewOutcome (m .outcome) (m .buffer) .answer ≡ step (view g) (m .call) .answer
+  answer-is = ap (λ (x : Result). x .answer) (a .contract)
+
+  buffer-is : m .buffer ≡ step (view g) (m .call) .buffer
+  unfolding viewOutcome
+  buffer-is = ap (λ (x : Result). x .buffer) (a .contract)
+
+-- ---- demand 1
+
+pub total : Total
+unfolding viewOutcome
+total g m r a e =
+    let p = refused-call (view g) (m .call) r (sym (answer-is a) ∙ e) in
+    record {
+      refusal = p .refusal;
+      station = λ k c b. station-is a ∙ p .station ∙ ap (λ (d : Call). step (view g) d .station) (sym c) ∙ sym (station-is b);
+      buffer = buffer-is a ∙ p .buffer;
+    }
+
+pub total-setup : TotalSetup
+unfolding viewOutcome
+total-setup i l o r s e =
+    let p = refused-setup i l r (sym (ap (λ (x : Result). x .answer) s) ∙ e) in
+    record { refusal = p .refusal; station = ap (λ (x : Result). x .station) s ∙ p .station }
+
+-- ---- chains
+
+-- the station that a chain leads to is the model's after the same calls
+chain-run : {g h : Station} {ms : List Made} → Chain g ms h → view h ≡ run (view g) (map callOf ms)
+unfolding run
+chain-run none-made = refl
+chain-run (made {ms = ms} a c) = chain-run c ∙ ap (λ (x : Model·Station). run x (map callOf ms)) (station-is a)
+
+handed-in : (c : Call) (x : Logging) → loggingCall x ≡ c → HandedIn c → TransitionLengths (x .transition)
+handed-in c x e h = rw (← e) at h
+
+chain-formed : {g h : Station} {ms : List Made} → Chain g ms h → WellFormed (map callOf ms)
+chain-formed none-made = λ x m. among-none m
+chain-formed (made a c) = λ x m. by x m (a .handed-in) (chain-formed c)
+  where
+    by : {d : Call} {ds : List Call} (x : Logging) → Among (loggingCall x) (d ∷ ds) → HandedIn d → WellFormed ds → TransitionLengths (x .transition)
+    by x first h w = h
+    by x (later m) h w = w x m
+
+-- ---- demand 2
+
+pub exact : Exact
+unfolding viewOutcome
+exact i l o ms g s c m t a kind b n allowed is e =
+    let start : view (o .station) ≡ setup i l .station = ap (λ (x : Result). x .station) s in
+    let here : view g ≡ run (setup i l .station) (map callOf ms) = chain-run c ∙ ap (λ (x : Model·Station). run x (map callOf ms)) start in
+    let there : (d : Call) → d ≡ report t a kind b → step (view g) d ≡ step (run (setup i l .station) (map callOf ms)) (report t a kind b) = λ d q. rw (q, here) in
+    let answer = sym (ap (λ (x : Result). x .answer) (there (m .call) is)) ∙ sym (answer-is allowed) ∙ e in
+    let trip = station-round-trip i l (map callOf ms) (chain-formed c) t a kind b n answer in
+    rw (here, buffer-is allowed, there (m .call) is) trip
+
+-- ---- demand 3
+
+chain-answers : {g h : Station} {ms : List Made} → Chain g ms h → map replied ms ≡ answers (view g) (map callOf ms)
+unfolding answers reply viewOutcome
+chain-answers none-made = refl
+chain-answers (made {m = m} {ms = ms} a c) =
+    let here : replied m ≡ toSender (sender (m .call)) (λ s. reply (view _) (m .call)) = rw (answer-is a, buffer-is a) in
+    let there : map replied ms ≡ answers (step (view _) (m .call) .station) (map callOf ms) = chain-answers c ∙ ap (λ (x : Model·Station). answers x (map callOf ms)) (station-is a) in
+    rw (here, there)
+
+pub independent-requesters : IndependentRequesters
+unfolding viewOutcome
+independent-requesters i l o ms g s c =
+    chain-answers c ∙ ap (λ (x : Model·Station). answers x (map callOf ms)) (ap (λ (x : Result). x .station) s) ∙ independent i l (map callOf ms)

@@ -1,0 +1,41 @@
+-- Calls on the code's station: what the methods' contracts allow, one after the other. The theorems about the model are said of them in
+-- Demands.antt.
+-- Assumes nothing.
+use mathlib.Core.Path.{_≡_}
+use mathlib.Core.List.{List, [], _∷_}
+use Prim.Native.Nat.{ℕ}
+use Rattle.events.specs.Loggings.{TransitionLengths}
+use Rattle.model.specs.Model.{Address, Call, clock, logging, frame, report, roam, change}
+use Rattle.model.specs.Stations.{setup, step}
+use Rattle.station.specs.declared.Station.{Station}
+use Rattle.station.specs.declared.Outcome.{Outcome}
+use Rattle.station.specs.Views.{view, viewOutcome}
+
+-- a call that was made: the call as the model has it, what the method returned, and the lent buffer afterwards ([] where none was lent)
+pub record Made : Type 0 where
+  pub call : Call
+  pub outcome : Outcome
+  pub buffer : List ℕ
+
+-- what a caller can hand in: a logged transition's fields are arrays, which have their lengths
+abbrev pub HandedIn : Call → Type 0
+HandedIn (clock t) = Unit {0}
+HandedIn (logging t e) = TransitionLengths e
+HandedIn (frame t d s o) = Unit {0}
+HandedIn (report t s k b) = Unit {0}
+HandedIn (roam t l) = Unit {0}
+HandedIn (change t l) = Unit {0}
+
+-- a call made on the station g: the equation of its method's contract
+pub record Allowed (g : Station) (m : Made) : Type 0 where
+  pub handed-in : HandedIn (m .call)
+  pub contract : viewOutcome (m .outcome) (m .buffer) ≡ step (view g) (m .call)
+
+-- each on the station that the one before it returned
+pub data Chain (g : Station) : List Made → Station → Type 0 where
+  none-made : Chain g [] g
+  made : {m : Made} {ms : List Made} {h : Station} → Allowed g m → Chain (m .outcome .station) ms h → Chain g (m ∷ ms) h
+
+-- the first from setup: its contract's equation
+abbrev pub SetUp : List ℕ → List Address → Outcome → Type 0
+SetUp i l o = viewOutcome o [] ≡ setup i l
