@@ -12,10 +12,9 @@ use units::Milliseconds;
 ghost use mathlib.Core.Path.{_≡_};
 ghost use mathlib.Core.Bool.{_&&_};
 ghost use Prim.Native.Nat.{_≤_};
-ghost use mathlib.Core.Option.{none};
 ghost use Rattle.model.specs.Diagnostics.{isLate, onTime, unlessOver, dropLate, isCancel, holdsCancel, diagnosticOf, diagnosticsOf};
 ghost use Rattle.requesters.specs.Views.{left, viewDiagnostics};
-ghost use Rattle.slots.specs.Slots.{listed, renewsDiagnostics, newDiagnostics};
+ghost use Rattle.slots.specs.Slots.{listed, blankDiagnostics, renewsDiagnostics, newDiagnostics};
 
 // The first count of a request's elements; the other places are free.
 pub struct Diagnostics {
@@ -139,9 +138,9 @@ fn asks_cancel(q: Request) -> bool
     false
 }
 
-// No request is outstanding.
-pub fn no_diagnostics() -> DiagnosticRequest
-    ensures { λ r. ⌜ viewDiagnostics r ≡ none ⌝ }
+// No request is outstanding, and none has left anything.
+pub fn blank_diagnostics() -> DiagnosticRequest
+    ensures { λ r. ⌜ r ≡ blankDiagnostics ⌝ }
 {
     DiagnosticRequest {
         outstanding: false,
@@ -186,7 +185,7 @@ pub fn new_diagnostics(q: Request, reading: Milliseconds) -> DiagnosticRequest
     ensures { λ r. ⌜ viewDiagnostics r ≡ newDiagnostics (reading .0) q ⌝ }
 {
     if asks_cancel(q) {
-        return no_diagnostics();
+        return blank_diagnostics();
     }
     request_of(q.dialog, reading, diagnostics_of(q))
 }

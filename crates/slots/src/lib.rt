@@ -12,5 +12,5 @@ pub use event_requests::renews_events;
 pub use lists::bad_list;
 pub use lists::find;
 pub use lists::lower_requesters;
-pub use lists::new_requesters;
+pub use lists::named_requesters;
 pub use lists::tick_requesters;

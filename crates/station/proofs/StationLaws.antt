@@ -3,29 +3,30 @@
 use Prim.Native.Nat.{ℕ, _≤_, _<_}
 use mathlib.Core.Path.{_≡_, refl, ap, _∙_}
 use mathlib.Core.Bool.{Bool, true, false}
-use mathlib.Core.List.{List, [], _∷_, _++_, map}
+use mathlib.Core.List.{List, [], _∷_, _++_}
 use mathlib.Core.Option.{none, some}
 use lib.Dec.{eqb}
 use lib.ListN.{length, take, drop}
-use lib.Seq.{take-length, take-at, take-all}
+use lib.Seq.{take-length, take-at}
 use borrow.Author.Tests.{ltb-false, eqb-true, eqb-false, eq-eqb, ne-eqb}
 use native.Mathlib.Omega.{arith}
 use Rattle.laws.specs.Choice.{if_then_else_}
+use Rattle.laws.specs.Buffers.{onto}
 use Rattle.laws.proofs.Choice.{either}
 use Rattle.octets.specs.Refusals.{requesterList, identity}
 use Rattle.events.specs.declared.Entry.{Entry}
 use Rattle.events.specs.declared.Log.{Log}
-use Rattle.requesters.specs.declared.Requester.{Requester as Code·Requester}
-use Rattle.model.specs.Model.{Address}
-use Rattle.model.specs.Model.{Station, accepted}
+use Rattle.model.specs.Model.{Address, Station, Result, accepted}
 use Rattle.identities.specs.Identity.{stands, passRow, goodFrom, goodIdentity}
-use Rattle.model.specs.Requesters.{badList, newRequester}
-use Rattle.requesters.specs.Views.{viewRequester}
-use Rattle.requesters.specs.Views.{viewIdentity}
-use Rattle.station.specs.Calls.{renameCause}
-use Rattle.station.specs.Views.{view}
+use Rattle.model.specs.Requesters.{badList}
+use Rattle.requesters.specs.Views.{viewAnswer, viewIdentity}
+use Rattle.slots.proofs.RequesterLaws.{named-views}
+use Rattle.station.specs.declared.Station.{Station as Code·Station}
+use Rattle.station.specs.declared.Outcome.{Outcome}
+use Rattle.station.specs.Calls.{namedStation, setupStation, renamedStation, acceptedOutcome, Leaves, renameCause}
+use Rattle.station.specs.Views.{view, viewOutcome}
 use Rattle.model.specs.Stations.{result, refusedFor, nobody, newStation, setup, renameWith, rename}
-use Rattle.events.specs.Log.{logged}
+use Rattle.events.specs.Log.{logged, blankLog}
 
 -- a list that is not refused has at most four addresses
 pub good-length : (l : List Address) → badList l ≡ false → length l ≤ 4
@@ -57,28 +58,46 @@ unfolding viewIdentity if_then_else_
 view-some n o e = rw (ne-eqb n 0 e)
 
 -- a station that names the requesters of a list
-pub view-named : (n : ℕ) (o : List ℕ) (log : Log) (rs : List Code·Requester) (l : List Address) → (n ≡ 0 → ⊥) → length l ≤ 4
-    → map viewRequester (take (length l) rs) ≡ map newRequester (take 4 l)
-    → view (record { identity = o; length = n; log = log; requesters = rs; count = length l }) ≡ newStation (take n o) (logged log) l
+view-named : (n : ℕ) (o : List ℕ) (log : Log) (l : List Address) → (n ≡ 0 → ⊥) → length l ≤ 4 → view (namedStation o n log l) ≡ newStation (take n o) (logged log) l
 unfolding view
-view-named n o log rs l h few e = rw (view-some n o h, e, take-all 4 l few)
+view-named n o log l h few = rw (view-some n o h, named-views l few)
+
+pub view-setup : (i : List ℕ) (l : List Address) → 0 < length i → length l ≤ 4 → view (setupStation i l) ≡ newStation i [] l
+unfolding logged
+view-setup i l h few =
+    view-named (length i) _ blankLog l (λ z. omega arith) few ∙ ap (λ (o : List ℕ). newStation o [] l) (take-at i _ (length i) refl)
 
 -- an identity that was copied to the front of an array
-pub copied-front : (s o y : List ℕ) → y ≡ take (length s) s ++ drop (length s) o → take (length s) y ≡ s
-copied-front s o y e = ap (take (length s)) (e ∙ ap (λ (x : List ℕ). x ++ drop (length s) o) (take-length s)) ∙ take-at s (drop (length s) o) (length s) refl
+pub copied-front : (s o y : List ℕ) → y ≡ take (length s) s ++ drop (length s) o → y ≡ onto s o
+copied-front s o y e = e ∙ ap (λ (x : List ℕ). x ++ drop (length s) o) (take-length s)
+
+-- ---- outcomes
+
+module _ (o : Outcome) where
+  pub accepted-view : (g : Code·Station) → o ≡ acceptedOutcome g → viewOutcome o [] ≡ result (view g) accepted []
+  unfolding viewOutcome viewAnswer
+  accepted-view g e = ap (λ (x : Outcome). viewOutcome x []) e
+
+  pub accepted-leaves : (g : Code·Station) → o ≡ acceptedOutcome g → Leaves o g
+  accepted-leaves g e a = ap (λ (x : Outcome). x .station) e
+
+  -- one that is refused leaves no other station
+  pub refused-leaves : (g : Code·Station) (v : Station) (cause : ℕ) → viewOutcome o [] ≡ result v (refusedFor cause) [] → Leaves o g
+  unfolding viewOutcome
+  refused-leaves g v cause e a = let z : _≡_ {A = ℕ} 0 1 = cc (ap (λ (r : Result). r .answer) e) in absurd (omega arith)
 
 -- ---- the ladders, by the tests that lead to each step
 
 module _ (log : List Entry) (l : List Address) (g : Station) where
-  pub rename-bad : badList l ≡ true → result g (refusedFor requesterList) [] ≡ rename log l g
+  rename-bad : badList l ≡ true → result g (refusedFor requesterList) [] ≡ rename log l g
   unfolding rename if_then_else_
   rename-bad e = rw e
 
-  pub rename-none : badList l ≡ false → g .identity ≡ none → result g (refusedFor identity) [] ≡ rename log l g
+  rename-none : badList l ≡ false → g .identity ≡ none → result g (refusedFor identity) [] ≡ rename log l g
   unfolding rename renameWith if_then_else_
   rename-none e f = rw (e, f)
 
-  pub rename-some : (i : List ℕ) → badList l ≡ false → g .identity ≡ some i → result (newStation i log l) accepted [] ≡ rename log l g
+  rename-some : (i : List ℕ) → badList l ≡ false → g .identity ≡ some i → result (newStation i log l) accepted [] ≡ rename log l g
   unfolding rename renameWith if_then_else_
   rename-some i e f = rw (e, f)
 
@@ -93,7 +112,7 @@ module _ (log : List Entry) (l : List Address) (g : Station) where
         go false e false f = absurd (h (rw (e, f)))
 
 -- a list that a station with an identity takes
-pub rename-takes : (n : ℕ) (l : List Address) → renameCause n l ≡ 0 → (badList l ≡ false) × (n ≡ 0 → ⊥)
+rename-takes : (n : ℕ) (l : List Address) → renameCause n l ≡ 0 → (badList l ≡ false) × (n ≡ 0 → ⊥)
 unfolding renameCause if_then_else_
 rename-takes n l = go (badList l) refl (eqb n 0) refl
   where
@@ -101,6 +120,14 @@ rename-takes n l = go (badList l) refl (eqb n 0) refl
     go true e z f h = absurd (omega arith)
     go false e true f h = absurd (omega arith)
     go false e false f h = (e, eqb-false n 0 f)
+
+pub rename-taken : (o : Outcome) (g : Code·Station) (v : Station) (log : Log) (l : List Address) → v .identity ≡ viewIdentity (g .length) (g .identity)
+    → renameCause (g .length) l ≡ 0 → o ≡ acceptedOutcome (renamedStation g log l) → viewOutcome o [] ≡ rename (logged log) l v
+rename-taken o g v log l is free e =
+    let takes = rename-takes (g .length) l free in
+    accepted-view o _ e
+    ∙ ap (λ (x : Station). result x accepted []) (view-named (g .length) (g .identity) log l (takes .1) (good-length l (takes .0)))
+    ∙ rename-some (logged log) l v _ (takes .0) (is ∙ view-some (g .length) (g .identity) (takes .1))
 
 module _ (i : List ℕ) (l : List Address) where
   pub setup-bad-list : badList l ≡ true → result nobody (refusedFor requesterList) [] ≡ setup i l

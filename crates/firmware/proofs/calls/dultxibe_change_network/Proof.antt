@@ -14,7 +14,7 @@ outcome-of-requires : tie.Need-outcome-of-requires
 outcome-of-requires c κs = search needs
 
 returns : tie.Need-returns
-returns c = c .outcome-of .ensures [] ∙ ap numbered (c .before .change-network .ensures)
+returns c = c .outcome-of .ensures [] ∙ ap numbered (c .before .change-network .ensures .0)
 
 pub dultxibe-change-network-spec : {M : Type 1} → statement M
 dultxibe-change-network-spec =

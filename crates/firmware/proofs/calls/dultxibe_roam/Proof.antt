@@ -14,7 +14,7 @@ outcome-of-requires : tie.Need-outcome-of-requires
 outcome-of-requires c κs = search needs
 
 returns : tie.Need-returns
-returns c = c .outcome-of .ensures [] ∙ ap numbered (c .before .roam .ensures)
+returns c = c .outcome-of .ensures [] ∙ ap numbered (c .before .roam .ensures .0)
 
 pub dultxibe-roam-spec : {M : Type 1} → statement M
 dultxibe-roam-spec = tie.close (tie.spec roam-requires outcome-of-requires returns)

@@ -14,7 +14,7 @@ outcome-of-requires : tie.Need-outcome-of-requires
 outcome-of-requires c κs = search needs
 
 returns : tie.Need-returns
-returns c = c .outcome-of .ensures [] ∙ ap numbered (c .before .setup .ensures)
+returns c = c .outcome-of .ensures [] ∙ ap numbered (c .before .setup .ensures .0)
 
 pub dultxibe-setup-spec : {M : Type 1} → statement M
 dultxibe-setup-spec = tie.close (tie.spec setup-requires outcome-of-requires returns)

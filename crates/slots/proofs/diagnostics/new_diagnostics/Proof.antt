@@ -1,6 +1,7 @@
 -- `slots::diagnostics::new_diagnostics` meets its contract.
 -- Assumes nothing.
 use Rattle.laws.specs.Choice.{if_then_else_}
+use Rattle.requesters.specs.Views.{viewDiagnostics}
 use Rattle.slots.specs.Slots.{newDiagnostics}
 use borrow.Author.Needs.{needs}
 use Rattle.slots.proofs.diagnostics.new_diagnostics.Statement.{statement}
@@ -9,12 +10,12 @@ use Rattle.slots.proofs.diagnostics.new_diagnostics.Tie as tie
 asks-cancel-requires : tie.Need-asks-cancel-requires
 asks-cancel-requires c κs = search needs
 
-no-diagnostics-requires : tie.Need-no-diagnostics-requires
-no-diagnostics-requires c κs = search needs
+blank-diagnostics-requires : tie.Need-blank-diagnostics-requires
+blank-diagnostics-requires c κs = search needs
 
 returns : tie.Need-returns
-unfolding newDiagnostics if_then_else_
-returns c = rw (← c .before .before .asks-cancel .ensures, c .before .if1 .taken) (c .no-diagnostics .ensures)
+unfolding viewDiagnostics newDiagnostics if_then_else_
+returns c = rw (← c .before .before .asks-cancel .ensures, c .before .if1 .taken, c .blank-diagnostics .ensures)
 
 diagnostics-of-requires : tie.Need-diagnostics-of-requires
 diagnostics-of-requires c κs = search needs
@@ -31,7 +32,7 @@ new-diagnostics-spec =
     tie.close
     (tie.spec
     asks-cancel-requires
-    no-diagnostics-requires
+    blank-diagnostics-requires
     returns
     diagnostics-of-requires
     request-of-requires

@@ -4,6 +4,7 @@ use mathlib.Core.Path.{ap, _∙_}
 use mathlib.Core.List.{[]}
 use Rattle.model.specs.Model.{Station, accepted}
 use Rattle.model.specs.Stations.{result, act, readingOf, step}
+use Rattle.station.proofs.StationLaws.{accepted-view}
 use borrow.Author.Needs.{needs}
 use Rattle.station.proofs.Station.tick.Statement.{statement}
 use Rattle.station.proofs.Station.tick.Tie as tie
@@ -16,7 +17,7 @@ accepted-with-requires c κs = search needs
 
 returns : tie.Need-returns
 unfolding step act readingOf
-returns c = c .accepted-with .ensures ∙ ap (λ (g : Station). result g accepted []) (c .before .ticked .ensures)
+returns c = accepted-view _ _ (c .accepted-with .ensures) ∙ ap (λ (g : Station). result g accepted []) (c .before .ticked .ensures)
 
 pub tick-spec : {M : Type 1} → statement M
 tick-spec = tie.close (tie.spec ticked-requires accepted-with-requires returns)
