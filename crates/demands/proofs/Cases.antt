@@ -12,7 +12,8 @@ use Rattle.octets.specs.Addresses.{same, addressAt}
 use Rattle.octets.specs.Elements.{pieceEnd}
 use Rattle.octets.specs.Times.{inRange, goodTime}
 use Rattle.subelements.specs.Subelements.{wholeStep, step as Subelements·step, walk}
-use Rattle.requests.specs.Elements.{subelementsOf, subelementsStart, hasToken, badToken, withElement, ownStep, elementStep, walkElements}
+use Rattle.requests.specs.Elements.{subelementsOf, hasToken, badToken, withElement, ownStep, elementStep, walkElements}
+use Rattle.requests.specs.Internal.{subelementsStart}
 use Rattle.requests.specs.Requests.{requestOf, kindOf, headerCause, readRequest}
 use Rattle.events.specs.declared.Transition.{Transition}
 use Rattle.events.specs.Log.{pushed, bodyOf, entryOf}

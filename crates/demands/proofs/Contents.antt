@@ -29,7 +29,8 @@ use Rattle.model.specs.declared.Treatment.{Treatment}
 use Rattle.model.specs.declared.Treatment.the-variants.{Report, Incapable, Cancel, Identity}
 use Rattle.model.specs.Model.{EventRequest, Call}
 use Rattle.model.specs.Fill.{Piece}
-use Rattle.model.specs.Events.{pastLog, nextEventPlace, reportFront, treatFront, nextFrom, nextEvent, without, eventTreatment}
+use Rattle.events.specs.Log.{pastLog}
+use Rattle.model.specs.Events.{nextEventPlace, reportFront, treatFront, nextFrom, nextEvent, without, eventTreatment}
 use Rattle.model.specs.Diagnostics.{diagnosticTreatment, diagnosticReport, nextDiagnostic}
 use Rattle.report_reader.specs.Contents.{Content, statusOnly, loggedEvent, withSubelements, Valid, contentOctets}
 use Rattle.model.specs.Sound.{loggingCall, LoggedBy}

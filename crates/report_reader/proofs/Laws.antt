@@ -21,8 +21,8 @@ use Rattle.subelements.specs.Subelements.{walk}
 use Rattle.report_reader.specs.declared.Step.{Step}
 use Rattle.report_reader.specs.declared.Verdict.{Verdict}
 use Rattle.report_reader.specs.declared.Walk.{Walk}
-use Rattle.report_reader.specs.Reader.{refusedStep, skippedStep, foundStep, plainStep, loggedStep, bareStep, transitionStep, eventStep, walkedStep, diagnosticStep, kindStep, ownStep, stepAt, atWalk, advanced, more, judgeStep, judge, elementReadAt, Reading, reading, gathered, unread, readStep, readElements, viewed}
-use Rattle.report_reader.specs.Verdicts.{verdictOf, transitionAt, elementAt, Fits, stepOf}
+use Rattle.report_reader.specs.Reader.{refusedStep, skippedStep, foundStep, plainStep, loggedStep, bareStep, transitionStep, eventStep, walkedStep, diagnosticStep, kindStep, ownStep, stepAt, atWalk, advanced, more, judgeStep, judge, elementReadAt, Reading, reading, gathered, unread, readStep, readElements}
+use Rattle.report_reader.specs.Internal.{verdictOf, transitionAt, elementAt, Fits, stepOf}
 
 -- ---- an event report of length 3 is plain
 
@@ -169,6 +169,10 @@ unfolding judgeStep
 moved s kind {w} e c z = rw e (advanced-moves s w (stepAt s kind (w .at)) (step-goes s kind (w .at)) c (rw e at z))
 
 -- ---- the judgement agrees with the cursor's walk
+
+-- what it sees of the elements that are handed out
+abbrev viewed : Reading → Walk
+viewed w = atWalk (w .refusal) (w .at) (length (w .elements))
 
 gathered-viewed : (s : List ℕ) (w : Reading) (t : Step) → advanced (viewed w) t ≡ viewed (gathered s w t)
 unfolding advanced gathered if_then_else_

@@ -1,3 +1,3 @@
 pub mod Reader
-pub mod Verdicts
+pub mod Internal
 pub mod Contents

@@ -206,7 +206,3 @@ readStep s kind w = gathered s w (stepAt s kind (w .at))
 
 unfoldable pub readElements : List ℕ → Kind → Reading
 readElements s kind = repeatWhile (length s) (unread (length s)) (readStep s kind) (reading noRefusal 3 [])
-
--- what the judgement of a frame sees of them: proofs/Laws.antt has judge s kind ≡ viewed (readElements s kind)
-abbrev pub viewed : Reading → Walk
-viewed w = atWalk (w .refusal) (w .at) (length (w .elements))

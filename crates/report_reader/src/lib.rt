@@ -21,7 +21,7 @@ ghost use lib.ListN.{length};
 ghost use Rattle.report_reader.specs.declared.Step.{Step};
 ghost use Rattle.report_reader.specs.Reader.{part, noEvent, eventAt, refusedStep, skippedStep, plainStep, loggedStep, transitionStep, eventStep, walkedStep, diagnosticStep, ownStep, stepAt, atWalk, advanced, refusedReport, reportOf, judgedReport, readReport};
 ghost use Rattle.report_reader.specs.Reader.{judge as Reader·judge};
-ghost use Rattle.report_reader.specs.Verdicts.{verdictOf, transitionAt, elementAt, Fits, stepOf};
+ghost use Rattle.report_reader.specs.Internal.{verdictOf, transitionAt, elementAt, Fits, stepOf};
 
 // A reported transition; the signals are source RCPI, source RSNI, target RCPI and target RSNI.
 #[repr(C)]

@@ -20,7 +20,7 @@ use Rattle.octets.specs.Numbers.{category, longestFrame}
 use Rattle.model.proofs.FillLaws.{fill-fits}
 use Rattle.model.specs.Fill.{Piece, nothingMore, before, fillWith, fill, nextFrame}
 use Rattle.model.specs.Stations.{room}
-use Rattle.requesters.specs.Giving.{isNone, FilledAs, FramedAs}
+use Rattle.requesters.specs.Internal.{isNone, FilledAs, FramedAs}
 
 module _ {R : Type 0} (next : R → Option (Piece R)) where
   pub record Filling (q : R) (s buf : List ℕ) (at : ℕ) (r : R) : Type 0 where

@@ -23,7 +23,7 @@ use Rattle.requesters.specs.declared.Answer.the-variants.{Nothing}
 use Rattle.requesters.specs.declared.answering.Answered.{Answered}
 use Rattle.requesters.specs.declared.giving.Filled.{Filled}
 use Rattle.requesters.specs.Views.{left, eventsAt, progressOf, viewEvents, viewDiagnostics, viewRequester, viewAnswer, viewIdentity, viewServed}
-use Rattle.requesters.specs.Giving.{isNone, FramedAs, filledEvents, answeredDiagnostics, gaveEvents, gaveDiagnostics}
+use Rattle.requesters.specs.Internal.{isNone, FramedAs, filledEvents, answeredDiagnostics, gaveEvents, gaveDiagnostics}
 
 -- the octets of an identity's first len places
 pub identity-octets : (len : ℕ) (identity : List ℕ) → octetsOf (viewIdentity len identity) ≡ take len identity

@@ -13,7 +13,7 @@ ghost use lib.ListN.{take};
 ghost use Rattle.laws.specs.Buffers.{wrote, putFront};
 ghost use Rattle.model.specs.Diagnostics.{diagnosticTreatment, diagnosticReport, nextDiagnostic};
 ghost use Rattle.requesters.specs.Views.{left};
-ghost use Rattle.requesters.specs.Giving.{isIdentity, FilledAs};
+ghost use Rattle.requesters.specs.Internal.{isIdentity, FilledAs};
 
 // So many octets were written, whether no element is left, and the first one that is.
 pub struct Answered {

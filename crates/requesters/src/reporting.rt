@@ -28,7 +28,7 @@ ghost use Rattle.model.specs.Events.{nextEvent};
 ghost use Rattle.model.specs.Diagnostics.{nextDiagnostic};
 ghost use Rattle.model.specs.Stations.{giveKind, giveReport};
 ghost use Rattle.requesters.specs.Views.{left, eventsAt, progressOf, viewIdentity, viewRequester, viewServed};
-ghost use Rattle.requesters.specs.Giving.{FramedAs, filledEvents, answeredDiagnostics, gaveEvents, gaveDiagnostics};
+ghost use Rattle.requesters.specs.Internal.{FramedAs, filledEvents, answeredDiagnostics, gaveEvents, gaveDiagnostics};
 
 // An event request after a buffer was filled from it.
 fn after_events(r: EventRequest, f: Filled) -> EventRequest

@@ -24,7 +24,8 @@ use Rattle.subelements.specs.Subelements.{walked, refusedWalk, past, wholeStep,
 use Rattle.subelements.proofs.Laws.{walk-at-end}
 use Rattle.requests.specs.declared.Element.{Element}
 use Rattle.requests.specs.declared.Request.{Request}
-use Rattle.requests.specs.Elements.{pastElements, leastBody, subelementsOf, subelementsStart, elementOf, blankElements, hasToken, badToken, Elements, refusedElements, withElement, ownStep, elementStep, more, walkElements}
+use Rattle.requests.specs.Elements.{pastElements, leastBody, subelementsOf, elementOf, blankElements, hasToken, badToken, Elements, refusedElements, withElement, ownStep, elementStep, more, walkElements}
+use Rattle.requests.specs.Internal.{subelementsStart}
 use Rattle.requests.specs.Requests.{refusedRequest, lacksElement, requestOf, headerCause}
 
 -- ---- the number of subelements: an element of at most 255 octets has fewer than 256

@@ -39,11 +39,6 @@ unfoldable pub subelementsOf : List ℕ → Kind → ℕ → ℕ → Subelements
 subelementsOf s Event at end = if eqb (getD s (at + 3) 0) 0 then walk s 5 (at + 5) end else walked noRefusal end
 subelementsOf s Diagnostic at end = walk s 0 (at + 6) end
 
--- where they start, from the element's end where none are read: proofs/Laws.antt has walk s (knownOf kind) (subelementsStart s kind at end) end ≡ subelementsOf s kind at end
-unfoldable pub subelementsStart : List ℕ → Kind → ℕ → ℕ → ℕ
-subelementsStart s Event at end = if eqb (getD s (at + 3) 0) 0 then at + 5 else end
-subelementsStart s Diagnostic at end = at + 6
-
 abbrev pub elementOf : List ℕ → Kind → ℕ → Subelements → Element
 elementOf s kind at subs = record {
   token = getD s (at + 2) 0;

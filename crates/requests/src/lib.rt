@@ -14,7 +14,8 @@ use subelements::walk_request;
 ghost use mathlib.Core.Path.{_≡_};
 ghost use Prim.Native.Nat.{_+_, _≤_, _<_};
 ghost use lib.ListN.{length, getD, take};
-ghost use Rattle.requests.specs.Elements.{leastBody, limitAt, timeoutAt, subelementsStart, subelementsOf, elementOf, blankElements, hasToken, zeroToken, badToken, walkElements};
+ghost use Rattle.requests.specs.Elements.{leastBody, limitAt, timeoutAt, subelementsOf, elementOf, blankElements, hasToken, zeroToken, badToken, walkElements};
+ghost use Rattle.requests.specs.Internal.{subelementsStart};
 ghost use Rattle.requests.specs.Requests.{refusedRequest, lacksElement, requestOf, kindOf, headerCause, readRequest};
 
 // The most elements that a request has.

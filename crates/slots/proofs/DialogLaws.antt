@@ -14,7 +14,7 @@ use Rattle.model.specs.Diagnostics.{diagnosticsOf, holdsCancel, unlessOver, tak
 use Rattle.requesters.specs.declared.EventRequest.{EventRequest as Code·EventRequest}
 use Rattle.requesters.specs.declared.DiagnosticRequest.{DiagnosticRequest as Code·DiagnosticRequest}
 use Rattle.requesters.specs.Views.{eventsAt, viewEvents, viewDiagnostics}
-use Rattle.slots.specs.Slots.{renewsEvents, renewsDiagnostics, newDiagnostics}
+use Rattle.slots.specs.Internal.{renewsEvents, renewsDiagnostics, newDiagnostics}
 
 -- a request r, which is outstanding by the test b
 replaced : {R : Type 0} (repeated : R → Bool) (new : Option R) (r : R) (b : Bool)

@@ -14,7 +14,8 @@ ghost use mathlib.Core.Bool.{_&&_};
 ghost use Prim.Native.Nat.{_≤_};
 ghost use Rattle.model.specs.Diagnostics.{isLate, onTime, unlessOver, dropLate, isCancel, holdsCancel, diagnosticOf, diagnosticsOf};
 ghost use Rattle.requesters.specs.Views.{left, viewDiagnostics};
-ghost use Rattle.slots.specs.Slots.{listed, blankDiagnostics, renewsDiagnostics, newDiagnostics};
+ghost use Rattle.slots.specs.Internal.{listed, renewsDiagnostics, newDiagnostics};
+ghost use Rattle.slots.specs.Named.{blankDiagnostics};
 
 // The first count of a request's elements; the other places are free.
 pub struct Diagnostics {

@@ -23,7 +23,8 @@ use Rattle.requesters.specs.Views.{viewAnswer, viewIdentity}
 use Rattle.slots.proofs.RequesterLaws.{named-views}
 use Rattle.station.specs.declared.Station.{Station as Code·Station}
 use Rattle.station.specs.declared.Outcome.{Outcome}
-use Rattle.station.specs.Calls.{namedStation, setupStation, renamedStation, acceptedOutcome, Leaves, renameCause}
+use Rattle.station.specs.Memory.{namedStation, setupStation, renamedStation, Leaves}
+use Rattle.station.specs.Internal.{acceptedOutcome, renameCause}
 use Rattle.station.specs.Views.{view, viewOutcome}
 use Rattle.model.specs.Stations.{result, refusedFor, nobody, newStation, setup, renameWith, rename}
 use Rattle.events.specs.Log.{logged, blankLog}

@@ -1,2 +1,3 @@
-pub mod Calls
 pub mod Views
+pub mod Memory
+pub mod Internal

@@ -23,7 +23,7 @@ ghost use Rattle.events.specs.Log.{logged as Log·logged};
 ghost use Rattle.model.specs.Model.{frame};
 ghost use Rattle.model.specs.Stations.{requestCall, step};
 ghost use Rattle.requesters.specs.Views.{viewAnswer};
-ghost use Rattle.station.specs.Calls.{frameRefusal, frameAnswer};
+ghost use Rattle.station.specs.Internal.{frameRefusal, frameAnswer};
 ghost use Rattle.station.specs.Views.{view, viewOutcome};
 
 // How many entries are logged.

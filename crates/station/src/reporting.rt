@@ -18,7 +18,7 @@ ghost use Rattle.model.specs.Model.{report as Model·report};
 ghost use Rattle.events.specs.Log.{logged};
 ghost use Rattle.model.specs.Stations.{giveReport, step};
 ghost use Rattle.requesters.specs.Views.{viewIdentity, viewRequester, viewServed};
-ghost use Rattle.station.specs.Calls.{serveIf};
+ghost use Rattle.station.specs.Internal.{serveIf};
 ghost use Rattle.station.specs.Views.{view, viewOutcome};
 
 // A report for a requester that was found, or was not.

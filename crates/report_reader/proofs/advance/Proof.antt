@@ -5,7 +5,7 @@ use borrow.Author.Tests.{eq-eqb, ne-eqb}
 use Rattle.laws.specs.Choice.{if_then_else_}
 use Rattle.report_reader.specs.declared.Verdict.{Verdict}
 use Rattle.report_reader.specs.Reader.{advanced}
-use Rattle.report_reader.specs.Verdicts.{verdictOf}
+use Rattle.report_reader.specs.Internal.{verdictOf}
 use borrow.Author.Needs.{needs}
 use Rattle.report_reader.proofs.advance.Statement.{statement}
 use Rattle.report_reader.proofs.advance.Tie as tie

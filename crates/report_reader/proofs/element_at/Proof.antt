@@ -1,7 +1,7 @@
 -- `report_reader::element_at` meets its contract.
 -- Assumes nothing.
 use native.Mathlib.Omega.{arith}
-use Rattle.report_reader.specs.Verdicts.{elementAt}
+use Rattle.report_reader.specs.Internal.{elementAt}
 use borrow.Author.Needs.{needs}
 use Rattle.report_reader.proofs.element_at.Statement.{statement}
 use Rattle.report_reader.proofs.element_at.Tie as tie

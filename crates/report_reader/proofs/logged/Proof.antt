@@ -1,7 +1,7 @@
 -- `report_reader::logged` meets its contract.
 -- Assumes nothing.
 use Rattle.report_reader.specs.Reader.{loggedStep}
-use Rattle.report_reader.specs.Verdicts.{verdictOf}
+use Rattle.report_reader.specs.Internal.{verdictOf}
 use borrow.Author.Needs.{needs}
 use Rattle.report_reader.proofs.logged.Statement.{statement}
 use Rattle.report_reader.proofs.logged.Tie as tie

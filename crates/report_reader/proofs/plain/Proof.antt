@@ -1,7 +1,7 @@
 -- `report_reader::plain` meets its contract.
 -- Assumes nothing.
 use Rattle.report_reader.specs.Reader.{plainStep}
-use Rattle.report_reader.specs.Verdicts.{verdictOf}
+use Rattle.report_reader.specs.Internal.{verdictOf}
 use borrow.Author.Needs.{needs}
 use Rattle.report_reader.proofs.plain.Statement.{statement}
 use Rattle.report_reader.proofs.plain.Tie as tie

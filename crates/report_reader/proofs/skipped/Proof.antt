@@ -1,6 +1,6 @@
 -- `report_reader::skipped` meets its contract.
 -- Assumes nothing.
-use Rattle.report_reader.specs.Verdicts.{verdictOf}
+use Rattle.report_reader.specs.Internal.{verdictOf}
 use borrow.Author.Needs.{needs}
 use Rattle.report_reader.proofs.skipped.Statement.{statement}
 use Rattle.report_reader.proofs.skipped.Tie as tie

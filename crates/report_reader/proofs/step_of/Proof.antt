@@ -2,7 +2,7 @@
 -- Assumes nothing.
 use native.Mathlib.Omega.{arith}
 use Rattle.laws.specs.Choice.{if_then_else_}
-use Rattle.report_reader.specs.Verdicts.{stepOf}
+use Rattle.report_reader.specs.Internal.{stepOf}
 use borrow.Author.Needs.{needs}
 use Rattle.report_reader.proofs.step_of.Statement.{statement}
 use Rattle.report_reader.proofs.step_of.Tie as tie

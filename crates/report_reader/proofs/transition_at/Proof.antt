@@ -1,7 +1,7 @@
 -- `report_reader::transition_at` meets its contract.
 -- Assumes nothing.
 use Rattle.laws.specs.Choice.{if_then_else_}
-use Rattle.report_reader.specs.Verdicts.{transitionAt}
+use Rattle.report_reader.specs.Internal.{transitionAt}
 use borrow.Author.Needs.{needs}
 use Rattle.report_reader.proofs.transition_at.Statement.{statement}
 use Rattle.report_reader.proofs.transition_at.Tie as tie

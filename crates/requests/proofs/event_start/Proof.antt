@@ -2,7 +2,7 @@
 -- Assumes nothing.
 use borrow.Author.Tests.{eq-eqb, ne-eqb}
 use Rattle.laws.specs.Choice.{if_then_else_}
-use Rattle.requests.specs.Elements.{subelementsStart}
+use Rattle.requests.specs.Internal.{subelementsStart}
 use borrow.Author.Needs.{needs}
 use Rattle.requests.proofs.event_start.Statement.{statement}
 use Rattle.requests.proofs.event_start.Tie as tie

@@ -1,6 +1,6 @@
 -- `requests::subelements_start` meets its contract.
 -- Assumes nothing.
-use Rattle.requests.specs.Elements.{subelementsStart}
+use Rattle.requests.specs.Internal.{subelementsStart}
 use borrow.Author.Needs.{needs}
 use Rattle.requests.proofs.subelements_start.Statement.{statement}
 use Rattle.requests.proofs.subelements_start.Tie as tie

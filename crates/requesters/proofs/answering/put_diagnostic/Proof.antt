@@ -14,7 +14,7 @@ use Rattle.model.specs.declared.Diagnostic.{Diagnostic}
 use Rattle.model.specs.declared.Treatment.{Treatment}
 use Rattle.model.specs.declared.Treatment.the-variants.{Report, Incapable, Cancel, Identity}
 use Rattle.model.specs.Diagnostics.{diagnosticReport}
-use Rattle.requesters.specs.Giving.{isIdentity}
+use Rattle.requesters.specs.Internal.{isIdentity}
 use borrow.Author.Needs.{needs}
 use Rattle.requesters.proofs.answering.put_diagnostic.Statement.{statement}
 use Rattle.requesters.proofs.answering.put_diagnostic.Tie as tie

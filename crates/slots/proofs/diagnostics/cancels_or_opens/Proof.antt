@@ -1,6 +1,6 @@
 -- `slots::diagnostics::cancels_or_opens` meets its contract.
 -- Assumes nothing.
-use Rattle.slots.specs.Slots.{renewsDiagnostics}
+use Rattle.slots.specs.Internal.{renewsDiagnostics}
 use borrow.Author.Needs.{needs}
 use Rattle.slots.proofs.diagnostics.cancels_or_opens.Statement.{statement}
 use Rattle.slots.proofs.diagnostics.cancels_or_opens.Tie as tie

@@ -2,7 +2,7 @@
 -- Assumes nothing.
 use Rattle.laws.specs.Choice.{if_then_else_}
 use Rattle.requesters.specs.Views.{viewDiagnostics}
-use Rattle.slots.specs.Slots.{newDiagnostics}
+use Rattle.slots.specs.Internal.{newDiagnostics}
 use borrow.Author.Needs.{needs}
 use Rattle.slots.proofs.diagnostics.new_diagnostics.Statement.{statement}
 use Rattle.slots.proofs.diagnostics.new_diagnostics.Tie as tie

@@ -2,7 +2,7 @@
 -- Assumes nothing.
 use mathlib.Core.Path.{sym, ap, _∙_}
 use borrow.Author.Tests.{not-true, not-false}
-use Rattle.slots.specs.Slots.{renewsDiagnostics}
+use Rattle.slots.specs.Internal.{renewsDiagnostics}
 use borrow.Author.Needs.{needs}
 use Rattle.slots.proofs.diagnostics.renews_diagnostics.Statement.{statement}
 use Rattle.slots.proofs.diagnostics.renews_diagnostics.Tie as tie

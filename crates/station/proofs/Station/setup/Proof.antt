@@ -6,7 +6,7 @@ use borrow.Author.Tests.{not-true, not-false}
 use Rattle.octets.specs.Refusals.{requesterList, identity}
 use Rattle.model.specs.Model.{Station, accepted}
 use Rattle.model.specs.Stations.{result, refusedFor}
-use Rattle.station.specs.Calls.{acceptedOutcome}
+use Rattle.station.specs.Internal.{acceptedOutcome}
 use Rattle.station.proofs.StationLaws.{good-length, identity-some, identity-most, view-setup, accepted-view, accepted-leaves, refused-leaves, setup-bad-list, setup-bad-identity, setup-good}
 use borrow.Author.Needs.{needs}
 use Rattle.station.proofs.Station.setup.Statement.{statement}

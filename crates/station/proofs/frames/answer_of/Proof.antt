@@ -3,7 +3,7 @@
 use borrow.Author.Tests.{eq-eqb, ne-eqb}
 use Rattle.laws.specs.Choice.{if_then_else_}
 use Rattle.requesters.specs.Views.{viewAnswer}
-use Rattle.station.specs.Calls.{frameAnswer}
+use Rattle.station.specs.Internal.{frameAnswer}
 use Rattle.station.proofs.frames.answer_of.Statement.{statement}
 use Rattle.station.proofs.frames.answer_of.Tie as tie
 

@@ -1,7 +1,7 @@
 -- `station::frames::frame_refusal` meets its contract.
 -- Assumes nothing.
 use Rattle.laws.specs.Choice.{if_then_else_}
-use Rattle.station.specs.Calls.{frameRefusal}
+use Rattle.station.specs.Internal.{frameRefusal}
 use borrow.Author.Needs.{needs}
 use Rattle.station.proofs.frames.frame_refusal.Statement.{statement}
 use Rattle.station.proofs.frames.frame_refusal.Tie as tie

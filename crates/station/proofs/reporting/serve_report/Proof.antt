@@ -1,7 +1,7 @@
 -- `station::reporting::serve_report` meets its contract.
 -- Assumes nothing.
 use Rattle.laws.specs.Choice.{if_then_else_}
-use Rattle.station.specs.Calls.{serveIf}
+use Rattle.station.specs.Internal.{serveIf}
 use borrow.Author.Needs.{needs}
 use Rattle.station.proofs.reporting.serve_report.Statement.{statement}
 use Rattle.station.proofs.reporting.serve_report.Tie as tie

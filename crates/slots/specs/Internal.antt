@@ -1,24 +1,20 @@
+-- Nobody has to believe this file: it has what the contracts of functions inside this crate speak of.
 -- What the code of the slots speaks of beside the model.
 -- Assumes nothing.
 use Prim.Native.Nat.{ℕ, suc}
 use mathlib.Core.Bool.{Bool, false, not, _&&_, _||_}
-use mathlib.Core.List.{List, [], _∷_, map}
+use mathlib.Core.List.{List, [], _∷_}
 use mathlib.Core.Option.{Option, none}
 use lib.Dec.{eqb}
-use lib.ListN.{take, replicate}
+use lib.ListN.{take}
 use Rattle.laws.specs.Choice.{if_then_else_}
-use Rattle.laws.specs.Buffers.{onto}
 use Rattle.octets.specs.declared.numbers.Kind.{Kind}
 use Rattle.octets.specs.declared.numbers.Kind.the-variants.{Event, Diagnostic as Kind·Diagnostic}
 use Rattle.octets.specs.Addresses.{same}
 use Rattle.requests.specs.declared.Request.{Request}
-use Rattle.requests.specs.Elements.{blankElements}
 use Rattle.model.specs.declared.Diagnostic.{Diagnostic}
-use Rattle.model.specs.Model.{Address, DiagnosticRequest, Requester, requesterCapacity}
+use Rattle.model.specs.Model.{Address, DiagnosticRequest, Requester}
 use Rattle.model.specs.Diagnostics.{diagnosticsOf, holdsCancel, unlessOver}
-use Rattle.requesters.specs.declared.EventRequest.{EventRequest as Code·EventRequest}
-use Rattle.requesters.specs.declared.DiagnosticRequest.{DiagnosticRequest as Code·DiagnosticRequest}
-use Rattle.requesters.specs.declared.Requester.{Requester as Code·Requester}
 use Rattle.slots.specs.declared.diagnostics.Diagnostics.{Diagnostics}
 
 -- the elements that a list of them has
@@ -29,29 +25,6 @@ listed k = take (k .count) (k .elements)
 unfoldable pub place : Address → List Requester → ℕ
 place a [] = 0
 place a (r ∷ rs) = if same a (r .address) then 0 else suc (place a rs)
-
--- ---- requesters just named, in all their places
-
--- no request is outstanding, and none has left anything
-abbrev pub blankEvents : Code·EventRequest
-blankEvents = record { outstanding = false; dialog = 0; given = 0; mark = 0; start = 0; first = 0; count = 0; elements = blankElements }
-
-abbrev pub blankDiagnostic : Diagnostic
-blankDiagnostic = record { token = 0; ty = 0; timeout = 0 }
-
-abbrev pub blankDiagnostics : Code·DiagnosticRequest
-blankDiagnostics = record { outstanding = false; dialog = 0; accepted = record { 0 = 0 }; first = 0; count = 0; elements = replicate 8 blankDiagnostic }
-
-abbrev pub blankRequester : Address → Code·Requester
-blankRequester a = record { address = a; events = blankEvents; diagnostics = blankDiagnostics }
-
--- where no requester is named
-abbrev pub noAddress : Address
-noAddress = replicate 6 0
-
--- the four places of the requesters that a list names
-unfoldable pub namedRequesters : List Address → List Code·Requester
-namedRequesters l = onto (map blankRequester (take requesterCapacity l)) (replicate requesterCapacity (blankRequester noAddress))
 
 -- ---- frames
 
