@@ -16,7 +16,7 @@ fn begun(line: &str) -> Option<Vec<&str>> {
 
 /// The statements of all lists.
 pub fn statements(text: &str) -> Vec<&str> {
-    text.lines().filter_map(begun).flatten().collect()
+    text.lines().filter_map(begun).flatten().filter(|name| *name != "/").collect()
 }
 
 /// The text with each list as it is now.
@@ -68,7 +68,7 @@ mod tests {
     fn a_wrong_line_count() {
         let graph = sample::crates();
         let written = renewed(&graph, EMPTY).unwrap();
-        let wrong = written.replace("| 2 of 2 | 5 | 8 |", "| 2 of 2 | 4 | 8 |");
+        let wrong = written.replace("Low.antt` | 5 | 8 |", "Low.antt` | 4 | 8 |");
         assert_ne!(wrong, written);
         assert!(check(&graph, &wrong).is_err());
     }

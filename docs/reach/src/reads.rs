@@ -20,40 +20,61 @@ fn lines(graph: &Graph, nodes: &[usize]) -> usize {
     nodes.iter().map(|&node| graph.nodes[node].lines).sum()
 }
 
-/// The reached nodes of each file of a part that has one, in reading order.
-fn by_file(graph: &Graph, reached: &Nodes, part: Part) -> Vec<(usize, Vec<usize>)> {
-    let files = (0..graph.sources.len()).filter(|&file| graph.sources[file].part == part);
-    let nodes =
-        |file| reached.iter().copied().filter(|&node| graph.nodes[node].source == file).collect::<Vec<_>>();
-    files.map(|file| (file, nodes(file))).filter(|(_, nodes)| !nodes.is_empty()).collect()
-}
-
-/// The reading list of some statements, as Markdown.
-pub fn list(graph: &Graph, names: &[&str]) -> Result<String, Faults> {
+/// What one group of statements reaches.
+fn reached(graph: &Graph, names: &[&str]) -> Result<Nodes, Faults> {
     let mut from = Nodes::new();
     for name in names {
         from.extend(statement(graph, name)?);
     }
-    let reached = graph.reach(&from);
-    let mut table = "| File | Definitions | Their lines | File's lines |\n|---|---|---|---|\n".to_string();
-    let mut sum = [0; 4];
-    for (file, nodes) in by_file(graph, &reached, Part::Specs) {
+    Ok(graph.reach(&from))
+}
+
+/// A group's nodes of one file.
+fn of_file(graph: &Graph, group: &Nodes, file: usize) -> Vec<usize> {
+    group.iter().copied().filter(|&node| graph.nodes[node].source == file).collect()
+}
+
+/// A row: what it is of, a number for each group, and more cells.
+fn row(name: &str, numbers: &[usize], more: &str) -> String {
+    let cells: Vec<String> =
+        numbers.iter().map(|n| if *n == 0 { String::new() } else { n.to_string() }).collect();
+    format!("| {name} | {} |{more}\n", cells.join(" | "))
+}
+
+/// The table of a part: for each of its files the lines that each group reaches; the sums; how many definitions.
+fn table(graph: &Graph, groups: &[Nodes], part: Part, title: &str) -> String {
+    let heads: Vec<String> = (1..=groups.len()).map(|n| n.to_string()).collect();
+    let mut table = format!("| {title} | {} | Whole file |\n|---|", heads.join(" | "));
+    table += &"---|".repeat(groups.len() + 1);
+    table.push('\n');
+    let mut sums = vec![0; groups.len()];
+    let mut counts = vec![0; groups.len()];
+    for file in (0..graph.sources.len()).filter(|&file| graph.sources[file].part == part) {
+        let nodes: Vec<Vec<usize>> = groups.iter().map(|group| of_file(graph, group, file)).collect();
+        if nodes.iter().all(Vec::is_empty) {
+            continue;
+        }
+        let lines: Vec<usize> = nodes.iter().map(|nodes| lines(graph, nodes)).collect();
+        for (i, nodes) in nodes.iter().enumerate() {
+            sums[i] += lines[i];
+            counts[i] += nodes.len();
+        }
         let source = &graph.sources[file];
-        let of = graph.nodes.iter().filter(|node| node.source == file).count();
-        let row = [nodes.len(), of, lines(graph, &nodes), source.text.lines().count()];
-        table += &format!("| `{}` | {} of {} | {} | {} |\n", source.path(), row[0], row[1], row[2], row[3]);
-        (0..4).for_each(|i| sum[i] += row[i]);
+        table +=
+            &row(&format!("`{}`", source.path()), &lines, &format!(" {} |", source.text.lines().count()));
     }
-    table += &format!("| all | {} of {} | {} | {} |\n", sum[0], sum[1], sum[2], sum[3]);
-    table += "\n| Types of the code | Their lines |\n|---|---|\n";
-    let mut all = 0;
-    for (file, nodes) in by_file(graph, &reached, Part::Code) {
-        let names: Vec<String> = nodes.iter().map(|&node| format!("`{}`", graph.nodes[node].name)).collect();
-        let count = lines(graph, &nodes);
-        table += &format!("| `{}`: {} | {count} |\n", graph.sources[file].path(), names.join(", "));
-        all += count;
-    }
-    Ok(table + &format!("| all | {all} |"))
+    table += &row("lines in all", &sums, " |");
+    table + &row("definitions", &counts, " |")
+}
+
+/// The reading lists of groups of statements, which a `/` stands between, as Markdown.
+pub fn list(graph: &Graph, names: &[&str]) -> Result<String, Faults> {
+    let groups: Result<Vec<Nodes>, Faults> =
+        names.split(|name| *name == "/").map(|names| reached(graph, names)).collect();
+    let groups = groups?;
+    let definitions = table(graph, &groups, Part::Specs, "Definitions");
+    let types = table(graph, &groups, Part::Code, "Types of the code");
+    Ok(format!("{definitions}\n{}", types.trim_end()))
 }
 
 #[cfg(test)]
@@ -64,10 +85,10 @@ mod tests {
     #[test]
     fn files_definitions_and_lines() {
         let list = list(&sample::crates(), &["both"]).unwrap();
-        assert!(list.contains("| `crates/low/specs/Low.antt` | 2 of 2 | 5 | 8 |\n"));
-        assert!(list.contains("| `crates/high/specs/High.antt` | 1 of 3 | 3 | 13 |\n"));
-        assert!(list.contains("| all | 3 of 5 | 8 | 21 |\n"));
-        assert!(list.ends_with("| `crates/low/src/lib.rt`: `Number`, `Kind` | 5 |\n| all | 5 |"));
+        assert!(list.contains("| `crates/low/specs/Low.antt` | 5 | 8 |\n"));
+        assert!(list.contains("| `crates/high/specs/High.antt` | 3 | 13 |\n"));
+        assert!(list.contains("| lines in all | 8 | |\n| definitions | 3 | |\n"));
+        assert!(list.contains("| `crates/low/src/lib.rt` | 5 |"));
     }
 
     #[test]
@@ -76,5 +97,15 @@ mod tests {
         assert_eq!(list(&graph, &["high::count"]), list(&graph, &["both"]));
         assert_ne!(list(&graph, &["Claim"]), list(&graph, &["both"]));
         assert_eq!(list(&graph, &["three"]).unwrap_err(), ["no statement `three`"]);
+    }
+
+    #[test]
+    fn groups_have_a_column_each() {
+        let graph = sample::crates();
+        let lists = list(&graph, &["Claim", "/", "both"]).unwrap();
+        assert!(lists.starts_with("| Definitions | 1 | 2 | Whole file |\n|---|---|---|---|\n"));
+        assert!(lists.lines().any(
+            |line| line.starts_with("| `crates/high/specs/High.antt` |") && line.ends_with("| 3 | 13 |")
+        ));
     }
 }
