@@ -1,6 +1,8 @@
 /* A gate logs a transition across the counter's rollover, takes a console's request for transitions
- * of 15 TUs or more, and reports it: departure 4,294,967,290, arrival 10, so 16 ms, 15 TUs. The
- * console writes the request and reads the report. */
+ * of 15 TUs or more, and reports it: departure 4,294,967,290, arrival 10, so 16 ms, 15 TUs. Then it
+ * takes a request for diagnostics, one that it is incapable of and its identity. The console writes
+ * the requests and reads the reports, with the octets behind each status: time and transition, or
+ * the identity's subelements. */
 #include <stdio.h>
 
 #include "dultxibe.h"
@@ -44,6 +46,15 @@ static void print_octets(const uint8_t *octets, size_t length) {
     printf("\n");
 }
 
+/* An element's fields, and the octets behind its status. */
+static void print_element(struct dultxibe_step step, const uint8_t *frame) {
+    struct dultxibe_report_element e = step.element;
+    printf("element token %u type %u status %u", e.token, e.type, e.status);
+    if (e.logged) printf(" transition %u TU", e.event.took);
+    printf(" subelements %zu octets %zu\n", e.subs, e.length);
+    if (e.length > 0) print_octets(frame + step.rest, e.length);
+}
+
 static void print_report(const uint8_t *frame, size_t length) {
     struct dultxibe_report_frame report = dultxibe_read_report(consoles[0], frame, length);
     printf("read: cause %u kind %u dialog %u elements %zu\n", report.number, report.kind,
@@ -51,37 +62,63 @@ static void print_report(const uint8_t *frame, size_t length) {
     size_t position = DULTXIBE_FIRST_ELEMENT;
     while (report.number == 0 && position < length) {
         struct dultxibe_step step = dultxibe_next_element(report.kind, position, frame, length);
-        if (step.found)
-            printf("element token %u type %u status %u transition %u TU\n", step.element.token,
-                   step.element.type, step.element.status, step.element.event.took);
+        if (step.found) print_element(step, frame);
         position = step.next;
     }
 }
 
-int main(void) {
-    uint8_t request[267], report[260];
-
-    struct dultxibe_request asked = {.kind = DULTXIBE_EVENT, .dialog = 7, .count = 1};
-    asked.elements[0].token = 5;
-    asked.elements[0].limit = 4;
-    asked.elements[0].filter[2] = (struct dultxibe_condition){.present = true, .octets = {15, 0}};
-    struct dultxibe_reply wrote = dultxibe_write_request(asked, request, sizeof request);
+/* The console's request, written; its length. */
+static size_t write_request(struct dultxibe_request asked, uint8_t *request, size_t length) {
+    struct dultxibe_reply wrote = dultxibe_write_request(asked, request, length);
     print_reply("write", wrote);
     print_octets(request, wrote.length);
+    return wrote.length;
+}
+
+/* The gate's report to the first console, and what the console reads in it. */
+static struct dultxibe_outcome give_report(struct dultxibe_station station, uint32_t reading,
+                                           uint8_t kind) {
+    uint8_t report[260] = {0};
+    struct dultxibe_outcome o =
+        dultxibe_report(station, reading, consoles[0], kind, report, sizeof report);
+    print_reply("report", o.reply);
+    if (o.reply.code == DULTXIBE_LENGTH) {
+        print_octets(report, o.reply.length);
+        print_report(report, o.reply.length);
+    }
+    return o;
+}
+
+int main(void) {
+    uint8_t request[267];
+
+    struct dultxibe_request events = {.kind = DULTXIBE_EVENT, .dialog = 7, .count = 1};
+    events.elements[0].token = 5;
+    events.elements[0].limit = 4;
+    events.elements[0].filter[2] = (struct dultxibe_condition){.present = true, .octets = {15, 0}};
+    size_t length = write_request(events, request, sizeof request);
 
     struct dultxibe_outcome o = dultxibe_setup(identity, sizeof identity, consoles, 2);
     print_reply("setup", o.reply);
     o = dultxibe_log(o.station, 10, transition);
     print_reply("log", o.reply);
-    o = dultxibe_frame(o.station, 11, gate, stranger, request, wrote.length);
+    o = dultxibe_frame(o.station, 11, gate, stranger, request, length);
     print_reply("stranger's frame", o.reply);
-    o = dultxibe_frame(o.station, 12, gate, consoles[0], request, wrote.length);
+    o = dultxibe_frame(o.station, 12, gate, consoles[0], request, length);
     print_reply("frame", o.reply);
-    o = dultxibe_report(o.station, 13, consoles[0], DULTXIBE_EVENT, report, sizeof report);
-    print_reply("report", o.reply);
-    print_octets(report, o.reply.length);
-    print_report(report, o.reply.length);
-    o = dultxibe_report(o.station, 14, consoles[0], DULTXIBE_EVENT, report, sizeof report);
-    print_reply("report", o.reply);
+    o = give_report(o.station, 13, DULTXIBE_EVENT);
+    o = give_report(o.station, 14, DULTXIBE_EVENT);
+
+    struct dultxibe_request diagnostics = {.kind = DULTXIBE_DIAGNOSTIC, .dialog = 9, .count = 2};
+    diagnostics.elements[0].token = 3;
+    diagnostics.elements[0].type = 2;
+    diagnostics.elements[0].timeout = 2;
+    diagnostics.elements[1].token = 4;
+    diagnostics.elements[1].type = 1;
+    diagnostics.elements[1].timeout = 2;
+    length = write_request(diagnostics, request, sizeof request);
+    o = dultxibe_frame(o.station, 15, gate, consoles[0], request, length);
+    print_reply("frame", o.reply);
+    give_report(o.station, 16, DULTXIBE_DIAGNOSTIC);
     return 0;
 }

@@ -3,9 +3,9 @@
 use crate::listing::{list_report_input, list_request};
 use crate::program::Programs;
 use crate::shrink::{shrink_list, shrink_trace};
+use crate::tally::Tally;
 use crate::trace::{hexadecimal, replay};
 use std::fmt;
-use std::sync::atomic::{AtomicU64, Ordering};
 
 /// Two outputs that ought to be one, and the input that they came from.
 pub struct Difference {
@@ -25,37 +25,6 @@ impl fmt::Display for Difference {
     }
 }
 
-/// How often each refusal number was printed by a program, and how many lines there were.
-#[derive(Default)]
-pub struct Tally {
-    refusals: [AtomicU64; 18],
-    lines: AtomicU64,
-}
-
-impl Tally {
-    /// Counts the refusals among the printed lines.
-    fn count(&self, printed: &[u8]) {
-        for line in printed.split(|octet| *octet == b'\n').filter(|line| !line.is_empty()) {
-            self.lines.fetch_add(1, Ordering::Relaxed);
-            let Some(rest) = line.strip_prefix(b"refused ") else { continue };
-            let digits: String = rest.iter().take_while(|o| **o != b' ').map(|o| char::from(*o)).collect();
-            if let Some(count) = digits.parse().ok().and_then(|number: usize| self.refusals.get(number)) {
-                count.fetch_add(1, Ordering::Relaxed);
-            }
-        }
-    }
-
-    /// Prints the counts; false where a number from 1 to 17 was never seen.
-    pub fn print(&self) -> bool {
-        println!("lines compared: {}", self.lines.load(Ordering::Relaxed));
-        let counts: Vec<u64> = self.refusals.iter().map(|count| count.load(Ordering::Relaxed)).collect();
-        for (number, count) in counts.iter().enumerate().skip(1) {
-            println!("refusal {number:2}: {count}");
-        }
-        counts[1..].iter().all(|count| *count > 0)
-    }
-}
-
 /// Runs the program on the input and compares; on a difference the input is shortened octet by octet.
 fn compare_octets(
     programs: &Programs,
@@ -65,7 +34,7 @@ fn compare_octets(
     expect: fn(&[u8]) -> String,
 ) -> Result<(), Difference> {
     let printed = programs.run(name, input);
-    tally.count(&printed);
+    tally.count_printed(&printed);
     if printed == expect(input).into_bytes() {
         return Ok(());
     }
@@ -98,7 +67,7 @@ pub fn records_text(records: &[Vec<u8>]) -> String {
 pub fn compare_trace(programs: &Programs, tally: &Tally, records: &[Vec<u8>]) -> Result<Vec<u8>, Difference> {
     let input = records.concat();
     let printed = programs.run("replay", &input);
-    tally.count(&printed);
+    tally.count_printed(&printed);
     if printed == replay(&input).into_bytes() {
         return Ok(printed);
     }

@@ -4,11 +4,12 @@
 //! setup, the list of the last accepted network change or setup, the later calls only, and a clock record
 //! at the same reading in place of each frame or report call of another sender.
 
+use crate::answers::answers;
 use crate::compare::{records_text, Difference};
 use crate::octets::Address;
 use crate::program::Programs;
 use crate::shrink::shrink_trace;
-use crate::trace::{read_record, write_record, Record, LONGEST_TRACE};
+use crate::trace::{write_record, Record, LONGEST_TRACE};
 use std::collections::BTreeSet;
 
 /// The calls between one setup or accepted network change and the next, and the whole run's answers.
@@ -93,32 +94,6 @@ fn run_alone(programs: &Programs, calls: &[Alone]) -> Result<usize, (String, Str
         compared += 1;
     }
     Ok(compared)
-}
-
-/// Each record with the lines that were printed for it: two after a report call and a request writer, a
-/// line an element after a report listing, otherwise one.
-fn answers<'a>(records: &[Vec<u8>], printed: &'a str) -> Vec<(Record, &'a str)> {
-    let mut rest = printed;
-    let mut answers = Vec::new();
-    for octets in records {
-        let Some((record, _)) = read_record(octets) else { break };
-        let first = rest.lines().next().unwrap_or("");
-        let lines = match record {
-            Record::Report { .. } | Record::Write { .. } => 2,
-            Record::Read { .. } if first.starts_with("report ") => 1 + last_number(first),
-            _ => 1,
-        };
-        let length = rest.split_inclusive('\n').take(lines).map(str::len).sum();
-        let (answer, after) = rest.split_at(length);
-        answers.push((record, answer));
-        rest = after;
-    }
-    answers
-}
-
-/// The number at the end of a line.
-fn last_number(line: &str) -> usize {
-    line.rsplit(' ').next().and_then(|word| word.parse().ok()).unwrap_or(0)
 }
 
 /// "The list starts from what setup returned, accepted or refused." An accepted network change starts a

@@ -23,8 +23,11 @@ pub mod make_traces;
 pub mod random;
 
 // The runner.
+pub mod answers;
 pub mod compare;
 pub mod independence;
 pub mod phases;
 pub mod program;
+pub mod read_back;
 pub mod shrink;
+pub mod tally;

@@ -2,7 +2,7 @@
 
 use crate::octets::{address_of, u16_of, Address, Kind};
 use crate::refusal::refusal;
-use crate::report::{read_report, ReportElement, Rest};
+use crate::report::{read_report, ReportElement, ReportFrame, Rest};
 use crate::request::{read_request, RequestElement};
 use crate::transition::Time;
 
@@ -48,18 +48,20 @@ pub fn list_report_input(input: &[u8]) -> String {
     list_report(&address_of(input), &input[6..])
 }
 
-/// "First line `report ACTION dialog D elements N` ..., then one line each".
+/// The listing of a report frame, or the refusal.
 pub fn list_report(destination: &Address, octets: &[u8]) -> String {
     match read_report(destination, octets) {
         Err(refusal) => refusal.to_string(),
-        Ok(frame) => {
-            let action = frame.kind.report_action();
-            let first =
-                format!("report {} dialog {} elements {}\n", action, frame.dialog, frame.elements.len());
-            let lines = frame.elements.iter().map(|element| report_line(frame.kind, element));
-            first + &lines.collect::<String>()
-        }
+        Ok(frame) => report_text(&frame),
     }
+}
+
+/// "First line `report ACTION dialog D elements N` ..., then one line each".
+pub fn report_text(frame: &ReportFrame) -> String {
+    let action = frame.kind.report_action();
+    let first = format!("report {} dialog {} elements {}\n", action, frame.dialog, frame.elements.len());
+    let lines = frame.elements.iter().map(|element| report_line(frame.kind, element));
+    first + &lines.collect::<String>()
 }
 
 /// "`element ID token T type Y status S`, followed on the same line, for an event, by ` time ...`; for

@@ -1,7 +1,7 @@
 //! The phases of a run: fixed cases, request frames, report frames, traces.
 
 use crate::cases::{cases, limits, Input};
-use crate::compare::{compare_frame, compare_report, compare_trace, Difference, Tally};
+use crate::compare::{compare_frame, compare_report, compare_trace, Difference};
 use crate::independence::check_independence;
 use crate::make_identity::{identity, STATION};
 use crate::make_reports::{report_frame, time, transition};
@@ -10,7 +10,9 @@ use crate::make_traces::trace;
 use crate::octets::Kind;
 use crate::program::Programs;
 use crate::random::Random;
+use crate::read_back::check_read_back;
 use crate::station::Logging;
+use crate::tally::Tally;
 use crate::trace::{write_record, Record};
 use std::sync::atomic::{AtomicBool, AtomicUsize, Ordering};
 use std::sync::Mutex;
@@ -56,16 +58,27 @@ fn each(number: usize, item: impl Fn(usize) -> Result<(), Difference> + Sync) ->
 }
 
 impl Run {
+    /// A trace: every answer, and every frame that it gave read back. The answer is what was printed.
+    fn calls(&self, records: &[Vec<u8>]) -> Result<Vec<u8>, Difference> {
+        let printed = compare_trace(&self.programs, &self.tally, records)?;
+        check_read_back(&self.programs, &self.tally, records, &printed)?;
+        Ok(printed)
+    }
+
+    /// The same, and demand 3.
+    fn calls_and_independence(&self, records: &[Vec<u8>]) -> Result<(), Difference> {
+        let printed = self.calls(records)?;
+        self.tally.count_answers(check_independence(&self.programs, records, &printed)?);
+        Ok(())
+    }
+
     /// The paper's cases and the trace's limits.
     pub fn fixed(&self) -> Result<(), Difference> {
         let inputs: Vec<Input> = cases().into_iter().map(|case| case.input).chain(limits()).collect();
         each(inputs.len(), |index| match &inputs[index] {
             Input::Frame(octets) => compare_frame(&self.programs, &self.tally, octets),
             Input::Report(octets) => compare_report(&self.programs, &self.tally, octets),
-            Input::Trace(records) => {
-                let printed = compare_trace(&self.programs, &self.tally, records)?;
-                check_independence(&self.programs, records, &printed).map(|_| ())
-            }
+            Input::Trace(records) => self.calls_and_independence(records),
         })
     }
 
@@ -85,7 +98,7 @@ impl Run {
                 }
                 records.extend(fresh_station(&mut random, octets, kind).iter().map(write_record));
             }
-            compare_trace(&self.programs, &self.tally, &records).map(|_| ())
+            self.calls(&records).map(|_| ())
         })
     }
 
@@ -107,17 +120,12 @@ impl Run {
         })
     }
 
-    /// Traces, and demand 3 on each; gives the number of answers compared for demand 3.
-    pub fn traces(&self, number: usize) -> Result<usize, Difference> {
-        let answers = AtomicUsize::new(0);
+    /// Traces of calls of every kind.
+    pub fn traces(&self, number: usize) -> Result<(), Difference> {
         each(number, |index| {
             let records = trace(&mut Random::new(self.seed, 3, index as u64));
-            let printed = compare_trace(&self.programs, &self.tally, &records)?;
-            let compared = check_independence(&self.programs, &records, &printed)?;
-            answers.fetch_add(compared, Ordering::Relaxed);
-            Ok(())
-        })?;
-        Ok(answers.into_inner())
+            self.calls_and_independence(&records)
+        })
     }
 }
 

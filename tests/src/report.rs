@@ -1,4 +1,4 @@
-//! Report frames, read.
+//! Report frames: their fields, and the reader.
 
 use crate::octets::{is_group, part_at, Address, Kind, Part, CATEGORY, HEADER, LONGEST_FRAME};
 use crate::refusal::{refusal, Refusal};
@@ -23,7 +23,7 @@ pub struct ReportElement {
     pub rest: Rest,
 }
 
-/// A report frame that was read without refusal.
+/// A report frame's fields: read without refusal, or chosen by the gate.
 #[derive(Clone, Debug, PartialEq, Eq)]
 pub struct ReportFrame {
     pub kind: Kind,

@@ -3,6 +3,7 @@
 use crate::listing::list_report;
 use crate::octets::{address_of, u16_of, Address, Kind};
 use crate::refusal::Refusal;
+use crate::report::ReportFrame;
 use crate::request::{condition_length, write_request, Wanted};
 use crate::station::{Answer, Logging, Station};
 use crate::transition::Transition;
@@ -271,8 +272,15 @@ pub fn hexadecimal(octets: &[u8]) -> String {
     octets.iter().flat_map(|octet| [digit(octet / 16), digit(octet % 16)]).collect()
 }
 
-/// Runs one record and gives what is printed for it.
-fn run_record(station: &mut Station, record: &Record) -> String {
+/// What a trace gives: the text that `replay` prints, and what the gate chose for each frame that it gave.
+#[derive(Default)]
+pub struct Replayed {
+    pub printed: String,
+    pub chosen: Vec<ReportFrame>,
+}
+
+/// Runs one record; gives what is printed for it, and adds what was chosen.
+fn run_record(station: &mut Station, record: &Record, chosen: &mut Vec<ReportFrame>) -> String {
     match record {
         Record::Setup { identity, list } => {
             let (answer, fresh) = Station::setup(identity, list);
@@ -286,7 +294,11 @@ fn run_record(station: &mut Station, record: &Record) -> String {
         }
         Record::Report { reading, console, kind, buffer, fill } => {
             let mut lent = vec![*fill; *buffer];
-            line(station.report(*reading, console, *kind, &mut lent)) + &buffer_line(&lent)
+            let answer = station.report(*reading, console, *kind, &mut lent).map(|(answer, frame)| {
+                chosen.extend(frame);
+                answer
+            });
+            line(answer) + &buffer_line(&lent)
         }
         Record::Roam { reading, list } => line(station.roam(*reading, list)),
         Record::Change { reading, list } => line(station.change_network(*reading, list)),
@@ -299,24 +311,30 @@ fn run_record(station: &mut Station, record: &Record) -> String {
     }
 }
 
-/// What `replay` prints. "A record that is cut, unknown, or has a field out of the range given here
-/// prints `trace refused at P`, P the record's first octet, and ends the run; so does input past 262,144
-/// octets, after the records that are whole. Calls before any setup go to the gate that a setup with an
-/// empty identity and no console yields."
-pub fn replay(input: &[u8]) -> String {
+/// Runs a trace. "A record that is cut, unknown, or has a field out of the range given here prints `trace
+/// refused at P`, P the record's first octet, and ends the run; so does input past 262,144 octets, after the
+/// records that are whole. Calls before any setup go to the gate that a setup with an empty identity and no
+/// console yields."
+pub fn run_trace(input: &[u8]) -> Replayed {
     let within = &input[..input.len().min(LONGEST_TRACE)];
     let mut station = Station::without_requesters();
-    let mut printed = String::new();
+    let mut replayed = Replayed::default();
     let mut at = 0;
     while at < within.len() {
         let Some((record, length)) = read_record(&within[at..]) else {
-            return printed + &format!("trace refused at {at}\n");
+            replayed.printed += &format!("trace refused at {at}\n");
+            return replayed;
         };
-        printed += &run_record(&mut station, &record);
+        replayed.printed += &run_record(&mut station, &record, &mut replayed.chosen);
         at += length;
     }
     if input.len() > LONGEST_TRACE {
-        printed += &format!("trace refused at {at}\n");
+        replayed.printed += &format!("trace refused at {at}\n");
     }
-    printed
+    replayed
+}
+
+/// What `replay` prints.
+pub fn replay(input: &[u8]) -> String {
+    run_trace(input).printed
 }

@@ -2,6 +2,7 @@
 
 use differential::octets::{Address, Kind};
 use differential::refusal::{refusal, Refusal};
+use differential::report::{ReportElement, ReportFrame, Rest};
 use differential::station::{Answer, Logging, Station};
 use differential::transition::Transition;
 
@@ -41,8 +42,19 @@ fn give(
     kind: Kind,
     length: usize,
 ) -> (Result<Answer, Refusal>, Vec<u8>) {
+    give_to(station, &A, reading, kind, length)
+}
+
+/// The same of any requester.
+fn give_to(
+    station: &mut Station,
+    console: &Address,
+    reading: u32,
+    kind: Kind,
+    length: usize,
+) -> (Result<Answer, Refusal>, Vec<u8>) {
     let mut buffer = vec![0xEE; length];
-    let answer = station.report(reading, &A, kind, &mut buffer);
+    let answer = station.report(reading, console, kind, &mut buffer).map(|(answer, _)| answer);
     let written = if let Ok(Answer::Length(written)) = answer { written } else { 0 };
     assert!(buffer[written..].iter().all(|octet| *octet == 0xEE));
     buffer.truncate(written);
@@ -122,9 +134,7 @@ fn another_token_replaces_only_the_same_console_and_kind() {
     ask(&mut station, 0, &asking(9, &[]));
     assert_eq!(give(&mut station, 0, Kind::Event, 260).1, [10, 1, 9, 79, 3, 5, 0, 0]);
     assert_eq!(give(&mut station, 0, Kind::Diagnostic, 260).1, [10, 3, 7, 81, 3, 1, 2, 3]);
-    let mut buffer = [0; 260];
-    assert_eq!(station.report(0, &B, Kind::Event, &mut buffer), Ok(Answer::Length(8)));
-    assert_eq!(buffer[2], 8);
+    assert_eq!(give_to(&mut station, &B, 0, Kind::Event, 260).1, [10, 1, 8, 79, 3, 5, 0, 0]);
 }
 
 #[test]
@@ -149,7 +159,7 @@ fn cancel_ends_the_senders_own_diagnostic_request() {
     ask(&mut station, 0, &[diagnostic(7, 3, 1, 9), vec![80, 4, 4, 0, 0, 0]].concat());
     assert_eq!(give(&mut station, 0, Kind::Diagnostic, 260).0, Ok(Answer::Nothing));
     assert_eq!(give(&mut station, 0, Kind::Event, 260).0, Ok(Answer::Length(8)));
-    assert_eq!(station.report(0, &B, Kind::Diagnostic, &mut [0; 260]), Ok(Answer::Length(8)));
+    assert_eq!(give_to(&mut station, &B, 0, Kind::Diagnostic, 260).0, Ok(Answer::Length(8)));
     // With no request outstanding.
     ask(&mut station, 0, &diagnostic(9, 1, 0, 9));
     assert_eq!(give(&mut station, 0, Kind::Diagnostic, 260).0, Ok(Answer::Nothing));
@@ -302,6 +312,29 @@ fn a_report_call_is_refused_by_12_then_13_then_finds_nothing() {
     assert_eq!(station.report(0, &TO, Kind::Event, &mut []), Err(refusal(12, 0)));
     assert_eq!(give(&mut station, 0, Kind::Event, 259).0, Err(refusal(13, 0)));
     assert_eq!(give(&mut station, 0, Kind::Event, 260).0, Ok(Answer::Nothing));
+}
+
+#[test]
+fn a_report_call_tells_what_it_chose() {
+    let mut station = station();
+    let transition =
+        Transition { source: A, target: B, time: 0, reason: 6, result: 258, signal: [1, 2, 3, 4] };
+    let time = [231, 3, 59, 59, 23, 31, 12, 234, 7];
+    let logging = Logging { time, transition: transition.clone(), departure: 4_294_967_290 };
+    assert_eq!(station.log(10, &logging), Ok(Answer::Accepted));
+    ask(&mut station, 10, &[10, 0, 7, 78, 3, 5, 0, 4, 78, 3, 6, 9, 0, 78, 3, 8, 0, 0]);
+    ask(&mut station, 10, &[10, 2, 8, 80, 4, 0, 1, 9, 0, 80, 4, 1, 2, 9, 0]);
+    let mut chosen = |kind| station.report(10, &A, kind, &mut [0; 260]).expect("A is listed").1;
+    let element = |token, ty, status, rest| ReportElement { token, ty, status, rest };
+    // Departure 4,294,967,290, arrival 10: 15 TU. The limit of token 8 is 0.
+    let event = Rest::Event(time, Transition { time: 15, ..transition });
+    let elements =
+        vec![element(5, 0, 0, event), element(6, 9, 3, Rest::Nothing), element(8, 0, 0, Rest::Nothing)];
+    assert_eq!(chosen(Kind::Event), Some(ReportFrame { kind: Kind::Event, dialog: 7, elements }));
+    // The identity has five subelements.
+    let elements = vec![element(0, 1, 0, Rest::Subelements(5)), element(1, 2, 3, Rest::Subelements(0))];
+    assert_eq!(chosen(Kind::Diagnostic), Some(ReportFrame { kind: Kind::Diagnostic, dialog: 8, elements }));
+    assert_eq!(chosen(Kind::Event), None);
 }
 
 #[test]

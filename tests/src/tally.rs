@@ -1,0 +1,85 @@
+//! What a run has seen: a check that saw nothing could not have failed.
+
+use crate::report::{ReportFrame, Rest};
+use std::sync::atomic::{AtomicUsize, Ordering};
+
+/// A count that several threads add to.
+#[derive(Default)]
+struct Count(AtomicUsize);
+
+impl Count {
+    /// So many more.
+    fn add(&self, number: usize) {
+        self.0.fetch_add(number, Ordering::Relaxed);
+    }
+
+    /// So many now.
+    fn number(&self) -> usize {
+        self.0.load(Ordering::Relaxed)
+    }
+}
+
+/// Lines that programs printed, and how often each refusal number was among them; answers compared for
+/// demand 3; frames read back, and what was in them.
+#[derive(Default)]
+pub struct Tally {
+    lines: Count,
+    refusals: [Count; 18],
+    answers: Count,
+    frames: Count,
+    elements: Count,
+    transitions: Count,
+    identities: Count,
+}
+
+impl Tally {
+    /// Counts the printed lines, and the refusals among them.
+    pub fn count_printed(&self, printed: &[u8]) {
+        for line in printed.split(|octet| *octet == b'\n').filter(|line| !line.is_empty()) {
+            self.lines.add(1);
+            let Some(rest) = line.strip_prefix(b"refused ") else { continue };
+            let digits: String = rest.iter().take_while(|o| **o != b' ').map(|o| char::from(*o)).collect();
+            if let Some(count) = digits.parse().ok().and_then(|number: usize| self.refusals.get(number)) {
+                count.add(1);
+            }
+        }
+    }
+
+    /// Counts answers compared with a newly set up gate's.
+    pub fn count_answers(&self, number: usize) {
+        self.answers.add(number);
+    }
+
+    /// Counts frames that were read back as they were chosen.
+    pub fn count_read_back(&self, chosen: &[ReportFrame]) {
+        self.frames.add(chosen.len());
+        for element in chosen.iter().flat_map(|frame| &frame.elements) {
+            self.elements.add(1);
+            match element.rest {
+                Rest::Event(..) => self.transitions.add(1),
+                Rest::Subelements(1..) => self.identities.add(1),
+                _ => {}
+            }
+        }
+    }
+
+    /// Prints the counts; false where one of them is 0.
+    pub fn print(&self) -> bool {
+        let named = [
+            ("lines compared", &self.lines),
+            ("answers compared with a newly set up gate", &self.answers),
+            ("frames read back", &self.frames),
+            ("elements in them", &self.elements),
+            ("transitions among these", &self.transitions),
+            ("identities among these", &self.identities),
+        ];
+        for (name, count) in &named {
+            println!("{name}: {}", count.number());
+        }
+        for (number, count) in self.refusals.iter().enumerate().skip(1) {
+            println!("refusal {number:2}: {}", count.number());
+        }
+        named.iter().all(|(_, count)| count.number() > 0)
+            && self.refusals[1..].iter().all(|count| count.number() > 0)
+    }
+}
