@@ -94,9 +94,9 @@ exact i l o ms g s c m t a kind b n allowed is e =
 chain-answers : {g h : Station} {ms : List Made} → Chain g ms h → map replied ms ≡ answers (view g) (map callOf ms)
 unfolding answers reply viewOutcome
 chain-answers none-made = refl
-chain-answers (made {m = m} {ms = ms} a c) =
-    let here : replied m ≡ toSender (sender (m .call)) (λ s. reply (view _) (m .call)) = rw (answer-is a, buffer-is a) in
-    let there : map replied ms ≡ answers (step (view _) (m .call) .station) (map callOf ms) = chain-answers c ∙ ap (λ (x : Model·Station). answers x (map callOf ms)) (station-is a) in
+chain-answers (made {g = g} {m = m} {ms = ms} a c) =
+    let here : replied m ≡ toSender (sender (m .call)) (λ s. reply (view g) (m .call)) = rw (answer-is a, buffer-is a) in
+    let there : map replied ms ≡ answers (step (view g) (m .call) .station) (map callOf ms) = chain-answers c ∙ ap (λ (x : Model·Station). answers x (map callOf ms)) (station-is a) in
     rw (here, there)
 
 pub independent-requesters : IndependentRequesters

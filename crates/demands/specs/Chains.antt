@@ -32,9 +32,9 @@ pub record Allowed (g : Station) (m : Made) : Type 0 where
   pub contract : viewOutcome (m .outcome) (m .buffer) ≡ step (view g) (m .call)
 
 -- each on the station that the one before it returned
-pub data Chain (g : Station) : List Made → Station → Type 0 where
-  none-made : Chain g [] g
-  made : {m : Made} {ms : List Made} {h : Station} → Allowed g m → Chain (m .outcome .station) ms h → Chain g (m ∷ ms) h
+pub data Chain : Station → List Made → Station → Type 0 where
+  none-made : {g : Station} → Chain g [] g
+  made : {g h : Station} {m : Made} {ms : List Made} → Allowed g m → Chain (m .outcome .station) ms h → Chain g (m ∷ ms) h
 
 -- the first from setup: its contract's equation
 abbrev pub SetUp : List ℕ → List Address → Outcome → Type 0
