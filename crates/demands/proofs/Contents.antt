@@ -1,6 +1,6 @@
 -- What each next element of a request tells: of events, by where the log's entries come from; of diagnostics, by the identity.
 -- Assumes nothing.
-use Prim.Native.Nat.{ℕ, zero, suc, _≤_, _<_, min}
+use Prim.Native.Nat.{ℕ, zero, suc, _≤_, _<_}
 use mathlib.Core.Path.{_≡_, refl, sym, ap, _∙_}
 use mathlib.Core.Bool.{Bool, true, false}
 use mathlib.Core.List.{List, [], _∷_, map}
@@ -19,9 +19,6 @@ use Rattle.octets.specs.Elements.{Subelement, subelements}
 use Rattle.requests.specs.declared.Element.{Element}
 use Rattle.events.specs.declared.Entry.{Entry}
 use Rattle.events.specs.Loggings.{Logging, entryFor}
-use Rattle.events.specs.Choice.{First, nextPlace}
-use Rattle.events.specs.Conditions.{meets}
-use Rattle.events.proofs.ChoiceLaws.{next-first}
 use Rattle.identities.specs.Identity.{goodIdentity}
 use Rattle.reports.specs.Reports.{reportElement, eventElement}
 use Rattle.model.specs.declared.Diagnostic.{Diagnostic as DiagnosticElement}
@@ -34,6 +31,7 @@ use Rattle.model.specs.Events.{nextEventPlace, reportFront, treatFront, nextFro
 use Rattle.model.specs.Diagnostics.{diagnosticTreatment, diagnosticReport, nextDiagnostic}
 use Rattle.report_reader.specs.Contents.{Content, statusOnly, loggedEvent, withSubelements, Valid, contentOctets}
 use Rattle.model.specs.Sound.{loggingCall, LoggedBy}
+use Rattle.model.proofs.NextEvent.{next-event}
 use Rattle.demands.specs.StationRoundTrip.{WellFormed, Truthful}
 use Rattle.demands.proofs.Filled.{Tells}
 use Rattle.identities.proofs.Subelements.{good-listed}
@@ -80,11 +78,7 @@ module _ (i : List ℕ) (cs : List Call) (whole : WellFormed cs) (log : List Ent
       }
 
   place-within : (r : EventRequest) (x : Element) (place : ℕ) → nextEventPlace log r x ≡ some place → place < length log
-  unfolding nextEventPlace
-  place-within r x place =
-      either (λ (o : Option ℕ). o ≡ some place → place < length log) _ _ _
-      (λ _ e. let f = next-first (meets log (x .ty) (x .filter)) (r .start) (min (r .mark) (length log)) place e in omega (arith, f .within))
-      (λ _ e. never cc)
+  place-within r x place e = next-event .given log r x place e .eligible .logged
 
   module _ (r : EventRequest) (x : Element) (xs : List Element) (behind : Option (Piece EventRequest)) (later-tells : AllTell behind) where
     report-tell : (o : Option ℕ) → nextEventPlace log r x ≡ o → AllTell (reportFront log r x xs behind o)

@@ -13,9 +13,9 @@ use Rattle.laws.specs.Choice.{if_then_else_}
 use Rattle.laws.proofs.Choice.{either, never}
 use Rattle.requests.specs.declared.Element.{Element}
 use Rattle.events.specs.declared.Entry.{Entry}
-use Rattle.events.specs.Choice.{First, nextPlace}
+use Rattle.events.specs.Choice.{nextPlace}
 use Rattle.events.specs.Conditions.{meets}
-use Rattle.events.proofs.ChoiceLaws.{next-first, next-none, next-none-passes}
+use Rattle.events.proofs.ChoiceLaws.{First, next-first, next-none, next-none-passes}
 use Rattle.model.specs.Model.{EventRequest}
 use Rattle.model.specs.Events.{nextEventPlace}
 use Rattle.model.specs.NextEvent.{Eligible, OldestMatch, NextEvent}

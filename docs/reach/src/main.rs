@@ -2,6 +2,7 @@
 //! docs/MAP.md and README.md that follow from it. It is run at the repository's top.
 
 mod believed;
+mod claims;
 mod code;
 mod definitions;
 mod graph;
@@ -22,7 +23,7 @@ use std::fs;
 use std::path::Path;
 use std::process::ExitCode;
 
-const USAGE: &str = "usage: reach map | reads STATEMENT.. | readme [--write] | believed";
+const USAGE: &str = "usage: reach map | reads STATEMENT.. | readme [--write] | claims | believed";
 
 /// What is wrong, one line each.
 type Faults = Vec<String>;
@@ -49,6 +50,7 @@ fn run(words: &[&str]) -> Result<String, Faults> {
             fs::write(readme, text).map_err(|e| vec![format!("README.md: {e}")])?;
             Ok("README.md: written".to_string())
         }
+        ["claims"] => claims::check(&graph()?, &read_text(readme)?),
         ["believed"] => {
             believed::check(&graph()?, &readme::statements(&read_text(readme)?), &believed::ENTRIES)
         }

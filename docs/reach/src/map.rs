@@ -15,7 +15,7 @@ struct Row<'a> {
 }
 
 /// The names in a cell, between backquotes.
-fn names(cell: &str) -> Vec<&str> {
+pub fn names(cell: &str) -> Vec<&str> {
     cell.split('`').skip(1).step_by(2).collect()
 }
 
