@@ -28,7 +28,7 @@ fn is_proved(graph: &Graph, statement: usize) -> bool {
     let name = graph.nodes[statement].name.as_str();
     let mut files =
         graph.sources.iter().filter(|source| source.part == Part::Proofs && source.krate == *krate);
-    files.any(|source| definitions::parse(&source.text).iter().any(|law| law.ty == [name]))
+    files.any(|source| definitions::parse(&source.text).iter().any(|law| law.ty == [":", name]))
 }
 
 pub fn check(graph: &Graph, text: &str) -> Result<String, Faults> {
