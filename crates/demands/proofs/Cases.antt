@@ -15,7 +15,6 @@ use Rattle.subelements.specs.Subelements.{wholeStep, step as Subelements·step,
 use Rattle.requests.specs.Elements.{subelementsOf, hasToken, badToken, withElement, ownStep, elementStep, walkElements}
 use Rattle.requests.specs.Internal.{subelementsStart}
 use Rattle.requests.specs.Requests.{requestOf, kindOf, headerCause, readRequest}
-use Rattle.events.specs.declared.Transition.{Transition}
 use Rattle.events.specs.Log.{pushed, bodyOf, entryOf}
 use Rattle.events.specs.Choice.{firstOf, nextPlace}
 use Rattle.events.specs.Conditions.{asked, transitionMeets, meetsAt, meets}
@@ -29,6 +28,7 @@ use Rattle.model.specs.Events.{eventTreatment, openEvents, takeEvents, nextEven
 use Rattle.model.specs.Diagnostics.{diagnosticTreatment, isLate, onTime, unlessOver, dropLate, holdsCancel, diagnosticsOf, takeDiagnostics, diagnosticReport, nextDiagnostic}
 use Rattle.model.specs.Stations.{setup, tickRequester, tick, logRequester, logEntry, logCall, withRequester, serveFound, serveListed, takeKind, takeRequest, requestCall, frameCall, giveEvents, giveDiagnostics, ifOutstanding, octetsOf, giveKind, giveReport, reportCall, act, readingOf, step}
 use Rattle.model.specs.Runs.{run}
+use Rattle.model.specs.Starred.{slowTransition}
 use Rattle.laws.specs.Members.{Among, first, later}
 use Rattle.laws.proofs.Members.{among-none}
 use Rattle.laws.proofs.Choice.{never}
@@ -43,20 +43,9 @@ identity = 13 ∷ 3 ∷ 1 ∷ 2 ∷ 3 ∷ 11 ∷ 1 ∷ 4 ∷ 12 ∷ 1 ∷ 5 ∷ 
 console : Address
 console = 2 ∷ 0 ∷ 0 ∷ 0 ∷ 0 ∷ 1 ∷ []
 
-moved : Transition
-moved = record {
-  time = 0 ∷ 0 ∷ 0 ∷ 0 ∷ 0 ∷ 1 ∷ 1 ∷ 0 ∷ 0 ∷ [];
-  source = 2 ∷ 1 ∷ 1 ∷ 1 ∷ 1 ∷ 1 ∷ [];
-  target = 2 ∷ 1 ∷ 1 ∷ 1 ∷ 1 ∷ 2 ∷ [];
-  reason = 3;
-  result = 258;
-  signals = 8 ∷ 9 ∷ 10 ∷ 11 ∷ [];
-  departure = record { 0 = 4294967290 };
-}
-
 calls : List Call
 calls =
-    logging 10 moved
+    logging 10 slowTransition
     ∷ frame 11 console console (10 ∷ 0 ∷ 7 ∷ 78 ∷ 3 ∷ 5 ∷ 0 ∷ 4 ∷ [])
     ∷ frame 12 console console (10 ∷ 2 ∷ 8 ∷ 80 ∷ 4 ∷ 6 ∷ 1 ∷ 9 ∷ 0 ∷ [])
     ∷ []
@@ -72,18 +61,14 @@ abbrev after : Kind → ℕ → Type 0
 after kind n = step gate (report 13 console kind (zeros 260)) .answer ≡ written n
 
 -- an event of 35 octets, and the identity behind five
-gives-event : after Event 38
-unfolding zeros identity console moved calls if_then_else_ repeatWhile same addressAt pieceEnd inRange goodTime wholeStep Subelements·step walk subelementsOf subelementsStart hasToken badToken withElement ownStep elementStep walkElements requestOf kindOf headerCause readRequest pushed bodyOf entryOf firstOf nextPlace asked transitionMeets meetsAt meets stands passRow goodFrom goodIdentity reportElement eventElement holds repeated hasGroup badList newRequester find put replace fillWith fill nextFrame eventTreatment openEvents takeEvents nextEventPlace gave without reportFront treatFront nextFrom nextEvent unlessDone diagnosticTreatment isLate onTime unlessOver dropLate holdsCancel diagnosticsOf takeDiagnostics diagnosticReport nextDiagnostic setup tickRequester tick logRequester logEntry logCall withRequester serveFound serveListed takeKind takeRequest requestCall frameCall giveEvents giveDiagnostics ifOutstanding octetsOf giveKind giveReport reportCall act readingOf step run
-gives-event = refl
-
-gives-identity : after Diagnostic 25
-unfolding zeros identity console moved calls if_then_else_ repeatWhile same addressAt pieceEnd inRange goodTime wholeStep Subelements·step walk subelementsOf subelementsStart hasToken badToken withElement ownStep elementStep walkElements requestOf kindOf headerCause readRequest pushed bodyOf entryOf firstOf nextPlace asked transitionMeets meetsAt meets stands passRow goodFrom goodIdentity reportElement eventElement holds repeated hasGroup badList newRequester find put replace fillWith fill nextFrame eventTreatment openEvents takeEvents nextEventPlace gave without reportFront treatFront nextFrom nextEvent unlessDone diagnosticTreatment isLate onTime unlessOver dropLate holdsCancel diagnosticsOf takeDiagnostics diagnosticReport nextDiagnostic setup tickRequester tick logRequester logEntry logCall withRequester serveFound serveListed takeKind takeRequest requestCall frameCall giveEvents giveDiagnostics ifOutstanding octetsOf giveKind giveReport reportCall act readingOf step run
-gives-identity = refl
+answered : after Event 38 × after Diagnostic 25
+unfolding zeros identity console slowTransition calls if_then_else_ repeatWhile same addressAt pieceEnd inRange goodTime wholeStep Subelements·step walk subelementsOf subelementsStart hasToken badToken withElement ownStep elementStep walkElements requestOf kindOf headerCause readRequest pushed bodyOf entryOf firstOf nextPlace asked transitionMeets meetsAt meets stands passRow goodFrom goodIdentity reportElement eventElement holds repeated hasGroup badList newRequester find put replace fillWith fill nextFrame eventTreatment openEvents takeEvents nextEventPlace gave without reportFront treatFront nextFrom nextEvent unlessDone diagnosticTreatment isLate onTime unlessOver dropLate holdsCancel diagnosticsOf takeDiagnostics diagnosticReport nextDiagnostic setup tickRequester tick logRequester logEntry logCall withRequester serveFound serveListed takeKind takeRequest requestCall frameCall giveEvents giveDiagnostics ifOutstanding octetsOf giveKind giveReport reportCall act readingOf step run
+answered = (refl, refl)
 
 -- its one logged transition has its lengths, so both are read back
-is-moved : (x : Logging) → loggingCall x ≡ logging 10 moved → TransitionLengths (x .transition)
-unfolding moved
-is-moved x e = let t : x .transition ≡ moved = cc in rw t (record { time = refl; source = refl; target = refl; signals = refl })
+is-slow : (x : Logging) → loggingCall x ≡ logging 10 slowTransition → TransitionLengths (x .transition)
+unfolding slowTransition
+is-slow x e = let t : x .transition ≡ slowTransition = cc in rw t (record { time = refl; source = refl; target = refl; signals = refl })
 
 one-of : {A B : Type 0} {x y : A} {ys : List A} → Among x (y ∷ ys) → (x ≡ y → B) → (Among x ys → B) → B
 one-of first f g = f refl
@@ -91,10 +76,10 @@ one-of (later m) f g = g m
 
 calls-formed : WellFormed calls
 unfolding calls
-calls-formed x m = one-of m (is-moved x) (λ m₁. one-of m₁ (λ e. never cc) (λ m₂. one-of m₂ (λ e. never cc) among-none))
+calls-formed x m = one-of m (is-slow x) (λ m₁. one-of m₁ (λ e. never cc) (λ m₂. one-of m₂ (λ e. never cc) among-none))
 
 event-read-back : RoundTrip identity calls (tick 13 gate) console Event 38 (step gate (report 13 console Event (zeros 260)) .buffer)
-event-read-back = station-round-trip identity (console ∷ []) calls calls-formed 13 console Event (zeros 260) 38 gives-event
+event-read-back = station-round-trip identity (console ∷ []) calls calls-formed 13 console Event (zeros 260) 38 (answered .0)
 
 identity-read-back : RoundTrip identity calls (tick 13 gate) console Diagnostic 25 (step gate (report 13 console Diagnostic (zeros 260)) .buffer)
-identity-read-back = station-round-trip identity (console ∷ []) calls calls-formed 13 console Diagnostic (zeros 260) 25 gives-identity
+identity-read-back = station-round-trip identity (console ∷ []) calls calls-formed 13 console Diagnostic (zeros 260) 25 (answered .1)

@@ -11,8 +11,8 @@ use Rattle.requests.specs.Requests.{requestOf, kindOf, headerCause, readRequest
 use Rattle.events.specs.Log.{bodyOf, entryOf}
 use Rattle.events.specs.Conditions.{asked, transitionMeets, meetsAt, meets}
 use Rattle.model.specs.Diagnostics.{isLate, onTime, unlessOver, dropLate}
-use Rattle.model.specs.Starred.{cases, outstanding, slow, leastTransition, equal, caseHolds, allHold, Starred}
+use Rattle.model.specs.Starred.{cases, outstanding, slowTransition, slow, leastTransition, equal, caseHolds, allHold, Starred}
 
 pub starred : Starred
-unfolding allHold caseHolds cases outstanding slow leastTransition equal if_then_else_ repeatWhile pieceEnd wholeStep Subelements·step walk subelementsOf hasToken badToken withElement ownStep elementStep walkElements requestOf kindOf headerCause readRequest bodyOf entryOf asked transitionMeets meetsAt meets isLate onTime unlessOver dropLate same addressAt
+unfolding allHold caseHolds cases outstanding slowTransition slow leastTransition equal if_then_else_ repeatWhile pieceEnd wholeStep Subelements·step walk subelementsOf hasToken badToken withElement ownStep elementStep walkElements requestOf kindOf headerCause readRequest bodyOf entryOf asked transitionMeets meetsAt meets isLate onTime unlessOver dropLate same addressAt
 starred = refl

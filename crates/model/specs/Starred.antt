@@ -12,6 +12,7 @@ use Rattle.subelements.specs.declared.Condition.{Condition}
 use Rattle.subelements.specs.Subelements.{absent}
 use Rattle.requests.specs.Requests.{readRequest}
 use Rattle.events.specs.declared.Entry.{Entry}
+use Rattle.events.specs.declared.Transition.{Transition}
 use Rattle.events.specs.Log.{entryOf}
 use Rattle.events.specs.Conditions.{meets}
 use Rattle.model.specs.Model.{DiagnosticRequest}
@@ -52,19 +53,20 @@ unfoldable pub outstanding : Option DiagnosticRequest → Bool
 outstanding none = false
 outstanding (some r) = true
 
--- a logged transition of 15 TU, across the rollover
+-- a transition across the rollover; logged at 10 it takes 15 TU
+unfoldable pub slowTransition : Transition
+slowTransition = record {
+  time = 0 ∷ 0 ∷ 0 ∷ 0 ∷ 0 ∷ 1 ∷ 1 ∷ 0 ∷ 0 ∷ [];
+  source = 2 ∷ 1 ∷ 1 ∷ 1 ∷ 1 ∷ 1 ∷ [];
+  target = 2 ∷ 1 ∷ 1 ∷ 1 ∷ 1 ∷ 2 ∷ [];
+  reason = 0;
+  result = 0;
+  signals = 0 ∷ 0 ∷ 0 ∷ 0 ∷ [];
+  departure = record { 0 = 4294967290 };
+}
+
 unfoldable pub slow : Entry
-slow =
-    entryOf 10
-    (record {
-      time = 0 ∷ 0 ∷ 0 ∷ 0 ∷ 0 ∷ 1 ∷ 1 ∷ 0 ∷ 0 ∷ [];
-      source = 2 ∷ 1 ∷ 1 ∷ 1 ∷ 1 ∷ 1 ∷ [];
-      target = 2 ∷ 1 ∷ 1 ∷ 1 ∷ 1 ∷ 2 ∷ [];
-      reason = 0;
-      result = 0;
-      signals = 0 ∷ 0 ∷ 0 ∷ 0 ∷ [];
-      departure = record { 0 = 4294967290 };
-    })
+slow = entryOf 10 slowTransition
 
 -- the conditions of an element with a threshold below 256 TU
 unfoldable pub leastTransition : ℕ → List Condition
