@@ -17,9 +17,9 @@ use Rattle.octets.proofs.AddressLaws.{same-true}
 use Rattle.requests.specs.declared.Request.{Request}
 use Rattle.events.specs.declared.Entry.{Entry}
 use Rattle.events.specs.declared.Transition.{Transition}
-use Rattle.model.specs.Model.{Address, Requester, Station, Call, clock, logging, frame, report, roam, change, accepted, Result}
+use Rattle.model.specs.Model.{Limits, Address, Requester, Station, Call, clock, logging, frame, report, roam, change, accepted, Result}
 use Rattle.requests.specs.Requests.{readRequest}
-use Rattle.events.specs.Log.{capacity, pushed, entryOf}
+use Rattle.events.specs.Log.{pushed, entryOf}
 use Rattle.model.specs.Requesters.{badList, newRequester, find, put}
 use Rattle.model.specs.Stations.{refusedFor, tickRequester, tick, lowerRequester, logRequester, logEntry, logCall, Served, withRequester, serveFound, serveListed, takeKind, takeRequest, requestCall, frameCall, giveEvents, giveDiagnostics, ifOutstanding, octetsOf, giveKind, giveReport, reportCall, renameWith, rename, act, readingOf, step}
 use Rattle.model.specs.Runs.{sender, Reply, reply, toSender}
@@ -88,10 +88,10 @@ onSlot f v = withSlot v (Option·map f (v .slot))
 tickSeen : ℕ → Seen → Seen
 tickSeen reading v = onSlot (tickRequester reading) v
 
-logSeen : ℕ → Transition → Seen → Seen
-logSeen reading e v =
+logSeen : Limits → ℕ → Transition → Seen → Seen
+logSeen k reading e v =
     if not (goodTime (e .time)) then v
-    else record { identity = v .identity; log = pushed capacity (v .log) (entryOf reading e); slot = Option·map (logRequester (v .log)) (v .slot) }
+    else record { identity = v .identity; log = pushed (k .events) (v .log) (entryOf reading e); slot = Option·map (logRequester k (v .log)) (v .slot) }
 
 servedSeen : Address → Address → (Requester → Served) → Seen → Seen
 servedSeen s a serve v = if same a s then onSlot (λ r. serve r .requester) v else v
@@ -100,20 +100,20 @@ renamedSeen : Address → List Entry → List Address → Seen → Option (List 
 renamedSeen s log l v none = v
 renamedSeen s log l v (some i) = record { identity = some i; log = log; slot = find s (map newRequester l) }
 
-renameSeen : Address → List Entry → List Address → Seen → Seen
-renameSeen s log l v = if badList l then v else renamedSeen s log l v (v .identity)
+renameSeen : Limits → Address → List Entry → List Address → Seen → Seen
+renameSeen k s log l v = if badList (k .requesters) l then v else renamedSeen s log l v (v .identity)
 
 -- what a call makes of it, the late diagnostics dropped
-actSeen : Address → Call → Seen → Seen
-actSeen s (clock t) v = v
-actSeen s (logging t e) v = logSeen t e v
-actSeen s (frame t d a o) v = if isGroup d then v else servedSeen s a (takeRequest t (v .log) (readRequest o)) v
-actSeen s (report t a k b) v = servedSeen s a (giveReport (v .identity) (v .log) k b) v
-actSeen s (roam t l) v = renameSeen s (v .log) l v
-actSeen s (change t l) v = renameSeen s [] l v
+actSeen : Limits → Address → Call → Seen → Seen
+actSeen k s (clock t) v = v
+actSeen k s (logging t e) v = logSeen k t e v
+actSeen k s (frame t d a o) v = if isGroup d then v else servedSeen s a (takeRequest t (v .log) (readRequest o)) v
+actSeen k s (report t a kind b) v = servedSeen s a (giveReport (v .identity) (v .log) kind b) v
+actSeen k s (roam t l) v = renameSeen k s (v .log) l v
+actSeen k s (change t l) v = renameSeen k s [] l v
 
-pub stepSeen : Address → Call → Seen → Seen
-stepSeen s c v = actSeen s c (tickSeen (readingOf c) v)
+pub stepSeen : Limits → Address → Call → Seen → Seen
+stepSeen k s c v = actSeen k s c (tickSeen (readingOf c) v)
 
 -- ---- every piece keeps the address
 
@@ -121,9 +121,9 @@ tick-keeps : (reading : ℕ) → Keeps (tickRequester reading)
 unfolding tickRequester
 tick-keeps reading r = refl
 
-log-keeps : (log : List Entry) → Keeps (logRequester log)
+log-keeps : (k : Limits) (log : List Entry) → Keeps (logRequester k log)
 unfolding logRequester lowerRequester
-log-keeps log r = either (λ (x : Requester). x .address ≡ r .address) _ _ _ (λ _. refl) (λ _. refl)
+log-keeps k log r = either (λ (x : Requester). x .address ≡ r .address) _ _ _ (λ _. refl) (λ _. refl)
 
 kind-keeps : (reading : ℕ) (log : List Entry) (q : Request) (r : Requester) (k : Kind) → takeKind reading log q r k .address ≡ r .address
 unfolding takeKind
@@ -161,12 +161,12 @@ seen-tick : (s : Address) (reading : ℕ) (g : Station) → seen s (tick reading
 unfolding seen tick tickSeen
 seen-tick s reading g = ap (withSlot (seen s g)) (find-map (tickRequester reading) (tick-keeps reading) s (g .requesters))
 
-seen-log : (s : Address) (reading : ℕ) (e : Transition) (g : Station) → seen s (logCall reading e g .station) ≡ logSeen reading e (seen s g)
+seen-log : (k : Limits) (s : Address) (reading : ℕ) (e : Transition) (g : Station) → seen s (logCall k reading e g .station) ≡ logSeen k reading e (seen s g)
 unfolding seen logCall logEntry logSeen
-seen-log s reading e g =
+seen-log k s reading e g =
     apply-if (λ (x : Result). seen s (x .station)) (not (goodTime (e .time))) _ _
-    ∙ ap (λ (o : Option Requester). if not (goodTime (e .time)) then seen s g else record { identity = g .identity; log = pushed capacity (g .log) (entryOf reading e); slot = o })
-    (find-map (logRequester (g .log)) (log-keeps (g .log)) s (g .requesters))
+    ∙ ap (λ (o : Option Requester). if not (goodTime (e .time)) then seen s g else record { identity = g .identity; log = pushed (k .events) (g .log) (entryOf reading e); slot = o })
+    (find-map (logRequester k (g .log)) (log-keeps k (g .log)) s (g .requesters))
 
 module _ (s a : Address) (serve : Requester → Served) (b : List ℕ) (g : Station) (keeps : ServeKeeps serve) where
   seen-found : (o : Option Requester) → find a (g .requesters) ≡ o → (t : Bool) → same a s ≡ t
@@ -195,27 +195,27 @@ unfolding seen renameWith renamedSeen
 seen-renamed s log l g none = refl
 seen-renamed s log l g (some i) = refl
 
-seen-rename : (s : Address) (log : List Entry) (l : List Address) (g : Station) → seen s (rename log l g .station) ≡ renameSeen s log l (seen s g)
+seen-rename : (k : Limits) (s : Address) (log : List Entry) (l : List Address) (g : Station) → seen s (rename k log l g .station) ≡ renameSeen k s log l (seen s g)
 unfolding rename renameSeen seen
-seen-rename s log l g =
-    apply-if (λ (x : Result). seen s (x .station)) (badList l) _ _
-    ∙ ap (λ (v : Seen). if badList l then seen s g else v) (seen-renamed s log l g (g .identity))
+seen-rename k s log l g =
+    apply-if (λ (x : Result). seen s (x .station)) (badList (k .requesters) l) _ _
+    ∙ ap (λ (v : Seen). if badList (k .requesters) l then seen s g else v) (seen-renamed s log l g (g .identity))
 
-seen-act : (s : Address) (c : Call) (g : Station) → seen s (act c g .station) ≡ actSeen s c (seen s g)
+seen-act : (k : Limits) (s : Address) (c : Call) (g : Station) → seen s (act k c g .station) ≡ actSeen k s c (seen s g)
 unfolding act actSeen seen requestCall frameCall reportCall
-seen-act s (clock t) g = refl
-seen-act s (logging t e) g = seen-log s t e g
-seen-act s (frame t d a o) g =
+seen-act k s (clock t) g = refl
+seen-act k s (logging t e) g = seen-log k s t e g
+seen-act k s (frame t d a o) g =
     apply-if (λ (x : Result). seen s (x .station)) (isGroup d) _ _
     ∙ ap (λ (v : Seen). if isGroup d then seen s g else v)
     (seen-served s a (takeRequest t (g .log) (readRequest o)) [] g (take-keeps t (g .log) (readRequest o)))
-seen-act s (report t a k b) g = seen-served s a (giveReport (g .identity) (g .log) k b) b g (give-keeps (g .identity) (g .log) k b)
-seen-act s (roam t l) g = seen-rename s (g .log) l g
-seen-act s (change t l) g = seen-rename s [] l g
+seen-act k s (report t a kind b) g = seen-served s a (giveReport (g .identity) (g .log) kind b) b g (give-keeps (g .identity) (g .log) kind b)
+seen-act k s (roam t l) g = seen-rename k s (g .log) l g
+seen-act k s (change t l) g = seen-rename k s [] l g
 
-pub seen-step : (s : Address) (c : Call) (g : Station) → seen s (step g c .station) ≡ stepSeen s c (seen s g)
+pub seen-step : (k : Limits) (s : Address) (c : Call) (g : Station) → seen s (step k g c .station) ≡ stepSeen k s c (seen s g)
 unfolding step stepSeen
-seen-step s c g = seen-act s c (tick (readingOf c) g) ∙ ap (actSeen s c) (seen-tick s (readingOf c) g)
+seen-step k s c g = seen-act k s c (tick (readingOf c) g) ∙ ap (actSeen k s c) (seen-tick s (readingOf c) g)
 
 -- ---- a call of another sender makes of it what a bare clock reading does
 
@@ -223,11 +223,11 @@ unserved : (s a : Address) (serve : Requester → Served) (v : Seen) → same a 
 unfolding servedSeen if_then_else_
 unserved s a serve v e = rw e
 
-pub quiet-step : (s : Address) (c : Call) (v : Seen) → stepSeen s (quiet s c) v ≡ stepSeen s c v
+pub quiet-step : (k : Limits) (s : Address) (c : Call) (v : Seen) → stepSeen k s (quiet s c) v ≡ stepSeen k s c v
 unfolding stepSeen sender quietFor actSeen readingOf if_then_else_
-quiet-step s (clock t) v = refl
-quiet-step s (logging t e) v = refl
-quiet-step s (frame t d a o) v = go (same a s) refl (isGroup d)
+quiet-step k s (clock t) v = refl
+quiet-step k s (logging t e) v = refl
+quiet-step k s (frame t d a o) v = go (same a s) refl (isGroup d)
   where
     w : Seen
     w = tickSeen t v
@@ -235,22 +235,22 @@ quiet-step s (frame t d a o) v = go (same a s) refl (isGroup d)
     serve : Requester → Served
     serve = takeRequest t (w .log) (readRequest o)
 
-    go : (b : Bool) → same a s ≡ b → (h : Bool) → stepSeen s (if b then frame t d a o else clock t) v ≡ (if isGroup d then w else servedSeen s a serve w)
+    go : (b : Bool) → same a s ≡ b → (h : Bool) → stepSeen k s (if b then frame t d a o else clock t) v ≡ (if isGroup d then w else servedSeen s a serve w)
     go true e h = refl
     go false e h = either (λ (x : Seen). w ≡ x) (isGroup d) w (servedSeen s a serve w) (λ _. refl) (λ _. sym (unserved s a serve w e))
-quiet-step s (report t a k b) v = go (same a s) refl
+quiet-step k s (report t a kind b) v = go (same a s) refl
   where
     w : Seen
     w = tickSeen t v
 
     serve : Requester → Served
-    serve = giveReport (w .identity) (w .log) k b
+    serve = giveReport (w .identity) (w .log) kind b
 
-    go : (x : Bool) → same a s ≡ x → stepSeen s (if x then report t a k b else clock t) v ≡ servedSeen s a serve w
+    go : (x : Bool) → same a s ≡ x → stepSeen k s (if x then report t a kind b else clock t) v ≡ servedSeen s a serve w
     go true e = refl
     go false e = sym (unserved s a serve w e)
-quiet-step s (roam t l) v = refl
-quiet-step s (change t l) v = refl
+quiet-step k s (roam t l) v = refl
+quiet-step k s (change t l) v = refl
 
 -- ---- the reply to a sender follows from what it sees
 
@@ -262,18 +262,18 @@ servedReply serve b none = record { answer = refusedFor unknownRequester; buffer
 servedReply serve b (some r) = record { answer = serve r .answer; buffer = serve r .buffer }
 
 -- of a call that has a sender
-seenReply : Call → Seen → Reply
-seenReply (frame t d a o) v =
+seenReply : Limits → Call → Seen → Reply
+seenReply k (frame t d a o) v =
     if isGroup d then record { answer = refusedFor groupDestination; buffer = [] }
     else servedReply (takeRequest t (v .log) (readRequest o)) [] (v .slot)
-seenReply (report t a k b) v = servedReply (giveReport (v .identity) (v .log) k b) b (v .slot)
-seenReply (clock t) v = record { answer = accepted; buffer = [] }
-seenReply (logging t e) v = record { answer = accepted; buffer = [] }
-seenReply (roam t l) v = record { answer = accepted; buffer = [] }
-seenReply (change t l) v = record { answer = accepted; buffer = [] }
+seenReply k (report t a kind b) v = servedReply (giveReport (v .identity) (v .log) kind b) b (v .slot)
+seenReply k (clock t) v = record { answer = accepted; buffer = [] }
+seenReply k (logging t e) v = record { answer = accepted; buffer = [] }
+seenReply k (roam t l) v = record { answer = accepted; buffer = [] }
+seenReply k (change t l) v = record { answer = accepted; buffer = [] }
 
-pub stepReply : Call → Seen → Reply
-stepReply c v = seenReply c (tickSeen (readingOf c) v)
+pub stepReply : Limits → Call → Seen → Reply
+stepReply k c v = seenReply k c (tickSeen (readingOf c) v)
 
 reply-found : (a : Address) (serve : Requester → Served) (b : List ℕ) (g : Station) (o : Option Requester)
     → replyOf (serveFound a serve b g o) ≡ servedReply serve b o
@@ -281,25 +281,25 @@ unfolding serveFound servedReply
 reply-found a serve b g none = refl
 reply-found a serve b g (some r) = refl
 
-module _ (t : ℕ) (a : Address) where
-  frame-reply : (d : Address) (o : List ℕ) (g : Station) → replyOf (act (frame t d a o) g) ≡ seenReply (frame t d a o) (seen a g)
+module _ (k : Limits) (t : ℕ) (a : Address) where
+  frame-reply : (d : Address) (o : List ℕ) (g : Station) → replyOf (act k (frame t d a o) g) ≡ seenReply k (frame t d a o) (seen a g)
   unfolding act requestCall frameCall serveListed seenReply seen
   frame-reply d o g =
       apply-if replyOf (isGroup d) _ _
       ∙ ap (λ (x : Reply). if isGroup d then record { answer = refusedFor groupDestination; buffer = [] } else x)
       (reply-found a (takeRequest t (g .log) (readRequest o)) [] g (find a (g .requesters)))
 
-  report-reply : (k : Kind) (b : List ℕ) (g : Station) → replyOf (act (report t a k b) g) ≡ seenReply (report t a k b) (seen a g)
+  report-reply : (kind : Kind) (b : List ℕ) (g : Station) → replyOf (act k (report t a kind b) g) ≡ seenReply k (report t a kind b) (seen a g)
   unfolding act reportCall serveListed seenReply seen
-  report-reply k b g = reply-found a (giveReport (g .identity) (g .log) k b) b g (find a (g .requesters))
+  report-reply kind b g = reply-found a (giveReport (g .identity) (g .log) kind b) b g (find a (g .requesters))
 
-pub seen-reply : (c : Call) (g : Address → Station) → toSender (sender c) (λ s. reply (g s) c) ≡ toSender (sender c) (λ s. stepReply c (seen s (g s)))
+pub seen-reply : (k : Limits) (c : Call) (g : Address → Station) → toSender (sender c) (λ s. reply k (g s) c) ≡ toSender (sender c) (λ s. stepReply k c (seen s (g s)))
 unfolding reply step sender toSender readingOf stepReply
-seen-reply (clock t) g = refl
-seen-reply (logging t e) g = refl
-seen-reply (frame t d a o) g =
-    ap (λ (x : Reply). some x) (frame-reply t a d o (tick t (g a)) ∙ ap (seenReply (frame t d a o)) (seen-tick a t (g a)))
-seen-reply (report t a k b) g =
-    ap (λ (x : Reply). some x) (report-reply t a k b (tick t (g a)) ∙ ap (seenReply (report t a k b)) (seen-tick a t (g a)))
-seen-reply (roam t l) g = refl
-seen-reply (change t l) g = refl
+seen-reply k (clock t) g = refl
+seen-reply k (logging t e) g = refl
+seen-reply k (frame t d a o) g =
+    ap (λ (x : Reply). some x) (frame-reply k t a d o (tick t (g a)) ∙ ap (seenReply k (frame t d a o)) (seen-tick a t (g a)))
+seen-reply k (report t a kind b) g =
+    ap (λ (x : Reply). some x) (report-reply k t a kind b (tick t (g a)) ∙ ap (seenReply k (report t a kind b)) (seen-tick a t (g a)))
+seen-reply k (roam t l) g = refl
+seen-reply k (change t l) g = refl

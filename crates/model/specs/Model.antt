@@ -10,10 +10,19 @@ use Rattle.events.specs.declared.Entry.{Entry}
 use Rattle.events.specs.declared.Transition.{Transition}
 use Rattle.model.specs.declared.Diagnostic.{Diagnostic}
 
--- "Setup names the identity and one to four consoles." The log's 64 is the `capacity` of the log, and the eight elements of a request are
--- its reader's (cause 9).
-abbrev pub requesterCapacity : ℕ
-requesterCapacity = 4
+-- how much a station holds: events in its log, requesters, elements of a request frame
+pub record Limits : Type 0 where
+  pub events : ℕ
+  pub requesters : ℕ
+  pub elements : ℕ
+
+-- "one to four consoles", "Ninth request element", "The log holds 64 events"
+abbrev pub full : Limits
+full = record { events = 64; requesters = 4; elements = 8 }
+
+-- "A small gate has one console, one element a frame and eight events."
+abbrev pub small : Limits
+small = record { events = 8; requesters = 1; elements = 1 }
 
 -- six octets
 abbrev pub Address : Type 0

@@ -1,5 +1,6 @@
 -- Requesters (document 01: consoles): the list that names them, and the one that an address finds.
 -- Assumes nothing.
+use Prim.Native.Nat.{ℕ}
 use mathlib.Core.Bool.{Bool, true, false, _||_}
 use mathlib.Core.List.{List, [], _∷_}
 use mathlib.Core.Option.{Option, none, some}
@@ -7,7 +8,7 @@ use lib.Dec.{eqb, ltb}
 use lib.ListN.{length}
 use Rattle.laws.specs.Choice.{if_then_else_}
 use Rattle.octets.specs.Addresses.{same, isGroup}
-use Rattle.model.specs.Model.{Address, Requester, requesterCapacity}
+use Rattle.model.specs.Model.{Address, Requester}
 
 unfoldable pub holds : Address → List Address → Bool
 holds a [] = false
@@ -21,11 +22,11 @@ unfoldable pub hasGroup : List Address → Bool
 hasGroup [] = false
 hasGroup (a ∷ l) = isGroup a || hasGroup l
 
--- "Console list empty, over 4, repeated, or with a group address" (15)
-unfoldable pub badList : List Address → Bool
-badList l =
+-- "Console list empty, over the most, repeated, or with a group address" (15)
+unfoldable pub badList : ℕ → List Address → Bool
+badList most l =
     if eqb (length l) 0 then true
-    else if ltb requesterCapacity (length l) then true
+    else if ltb most (length l) then true
     else if repeated l then true
     else hasGroup l
 
