@@ -9,7 +9,8 @@ use requesters::Answer;
 use requesters::Requester;
 
 // A station: its identity's first length octets (0: it has none), its log, and its first count
-// requesters; the other places are free.
+// requesters. The other requesters' places have no effect; setup, a move and a network change blank
+// them.
 #[repr(C)]
 pub struct Station {
     pub identity: [u8; 252],
