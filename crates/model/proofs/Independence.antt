@@ -9,7 +9,7 @@ use borrow.Author.Tests.{not-false}
 use Rattle.laws.specs.Choice.{if_then_else_}
 use Rattle.laws.proofs.Choice.{either}
 use Rattle.events.specs.declared.Entry.{Entry}
-use Rattle.model.specs.Model.{Limits, Address, Requester, Station, Call, clock, logging, frame, report, roam, change, accepted, Result}
+use Rattle.model.specs.Model.{Capacities, Address, Requester, Station, Call, clock, logging, frame, report, roam, change, accepted, Result}
 use Rattle.identities.specs.Identity.{goodIdentity}
 use Rattle.model.specs.Requesters.{badList, find}
 use Rattle.octets.specs.Refusals.{requesterList, identity}
@@ -18,7 +18,7 @@ use Rattle.model.specs.Runs.{run, sender, reply, toSender}
 use Rattle.model.specs.Independence.{quiet, Origin, from, longer, isAccepted, since, freshReply, answers, freshAnswers, Independent, origin, IndependentCall}
 use Rattle.model.proofs.Seen.{seen, stepSeen, stepReply, seen-step, quiet-step, seen-reply}
 
-module _ (size : Limits) where
+module _ (most : Capacities) where
   -- ---- no call changes the identity
 
   abbrev Same : Station → Result → Type 0
@@ -34,11 +34,11 @@ module _ (size : Limits) where
   renamed-identity log l g none e = refl
   renamed-identity log l g (some i) e = sym e
 
-  rename-identity : (log : List Entry) (l : List Address) (g : Station) → Same g (rename size log l g)
+  rename-identity : (log : List Entry) (l : List Address) (g : Station) → Same g (rename most log l g)
   unfolding rename
   rename-identity log l g = either (Same g) _ _ _ (λ _. refl) (λ _. renamed-identity log l g (g .identity) refl)
 
-  act-identity : (c : Call) (g : Station) → Same g (act size c g)
+  act-identity : (c : Call) (g : Station) → Same g (act most c g)
   unfolding act logCall logEntry requestCall frameCall reportCall serveListed
   act-identity (clock t) g = refl
   act-identity (logging t e) g = either (Same g) _ _ _ (λ _. refl) (λ _. refl)
@@ -47,18 +47,18 @@ module _ (size : Limits) where
   act-identity (roam t l) g = rename-identity (g .log) l g
   act-identity (change t l) g = rename-identity [] l g
 
-  step-identity : (g : Station) (c : Call) → step size g c .station .identity ≡ g .identity
+  step-identity : (g : Station) (c : Call) → step most g c .station .identity ≡ g .identity
   unfolding step tick
   step-identity g c = act-identity c (tick (readingOf c) g)
 
-  -- ---- an accepted network change leaves what setup size makes
+  -- ---- an accepted network change leaves what setup makes
 
   -- the identity of a station that was set up with i: i, and good, or none
   unfoldable Known : List ℕ → Option (List ℕ) → Type 0
   Known i none = Unit {0}
   Known i (some j) = (j ≡ i) × (goodIdentity i ≡ true)
 
-  setup-known : (i : List ℕ) (l : List Address) → Known i (setup size i l .station .identity)
+  setup-known : (i : List ℕ) (l : List Address) → Known i (setup most i l .station .identity)
   unfolding setup Known
   setup-known i l =
       let P : Result → Type 0 = λ (x : Result). Known i (x .station .identity) in
@@ -82,10 +82,10 @@ module _ (size : Limits) where
     renamed-new none k e = cc
     renamed-new (some j) k e = rw (k .0, k .1)
 
-    rename-new : Known i (g .identity) → Agree (rename size [] l g) (setup size i l)
+    rename-new : Known i (g .identity) → Agree (rename most [] l g) (setup most i l)
     unfolding rename setup isAccepted
     rename-new k =
-        agree-if (badList (size .requesters) l) (result g (refusedFor requesterList) []) (result nobody (refusedFor requesterList) []) (renameWith [] l g (g .identity)) named
+        agree-if (badList (most .requesters) l) (result g (refusedFor requesterList) []) (result nobody (refusedFor requesterList) []) (renameWith [] l g (g .identity)) named
         (λ e. cc)
         (renamed-new (g .identity) k)
 
@@ -93,31 +93,31 @@ module _ (size : Limits) where
 
   module _ (s : Address) where
     run-end : (g : Station) (cs : List Call) (c : Call)
-        → seen s (run size g (map (quiet s) (cs ++ (c ∷ [])))) ≡ stepSeen size s c (seen s (run size g (map (quiet s) cs)))
+        → seen s (run most g (map (quiet s) (cs ++ (c ∷ [])))) ≡ stepSeen most s c (seen s (run most g (map (quiet s) cs)))
     unfolding run
-    run-end g [] c = seen-step size s (quiet s c) g ∙ quiet-step size s c (seen s g)
-    run-end g (x ∷ cs) c = run-end (step size g (quiet s x) .station) cs c
+    run-end g [] c = seen-step most s (quiet s c) g ∙ quiet-step most s c (seen s g)
+    run-end g (x ∷ cs) c = run-end (step most g (quiet s x) .station) cs c
 
   -- for every sender, g looks like the newly set up station after the calls since the origin
   Alike : List ℕ → Origin → Station → Type 0
-  Alike i o g = (s : Address) → seen s g ≡ seen s (run size (setup size i (o .list) .station) (map (quiet s) (o .later)))
+  Alike i o g = (s : Address) → seen s g ≡ seen s (run most (setup most i (o .list) .station) (map (quiet s) (o .later)))
 
   module _ (i : List ℕ) where
-    alike-start : (l : List Address) → Alike i (from l) (setup size i l .station)
+    alike-start : (l : List Address) → Alike i (from l) (setup most i l .station)
     unfolding Alike run
     alike-start l s = refl
 
     module _ (o : Origin) (g : Station) (alike : Alike i o g) where
-      alike-longer : (c : Call) → Alike i (longer o c) (step size g c .station)
+      alike-longer : (c : Call) → Alike i (longer o c) (step most g c .station)
       unfolding Alike
-      alike-longer c s = seen-step size s c g ∙ ap (stepSeen size s c) (alike s) ∙ sym (run-end s (setup size i (o .list) .station) (o .later) c)
+      alike-longer c s = seen-step most s c g ∙ ap (stepSeen most s c) (alike s) ∙ sym (run-end s (setup most i (o .list) .station) (o .later) c)
 
       module _ (known : Known i (g .identity)) where
-        alike-change : (t : ℕ) (l : List Address) → isAccepted (step size g (change t l) .answer) ≡ true → Alike i (from l) (step size g (change t l) .station)
+        alike-change : (t : ℕ) (l : List Address) → isAccepted (step most g (change t l) .answer) ≡ true → Alike i (from l) (step most g (change t l) .station)
         unfolding Alike step act readingOf tick run
         alike-change t l e s = ap (seen s) (rename-new i l (tick t g) known e)
 
-        alike-since : (c : Call) → Alike i (since o c (step size g c .answer)) (step size g c .station)
+        alike-since : (c : Call) → Alike i (since o c (step most g c .answer)) (step most g c .station)
         unfolding since
         alike-since (clock t) = alike-longer (clock t)
         alike-since (logging t e) = alike-longer (logging t e)
@@ -125,29 +125,29 @@ module _ (size : Limits) where
         alike-since (report t a k b) = alike-longer (report t a k b)
         alike-since (roam t l) = alike-longer (roam t l)
         alike-since (change t l) =
-            either (λ (x : Origin). Alike i x (step size g (change t l) .station)) _ _ _ (alike-change t l) (λ _. alike-longer (change t l))
+            either (λ (x : Origin). Alike i x (step most g (change t l) .station)) _ _ _ (alike-change t l) (λ _. alike-longer (change t l))
 
-      reply-fresh : (c : Call) → toSender (sender c) (λ s. reply size g c) ≡ toSender (sender c) (freshReply size i o c)
+      reply-fresh : (c : Call) → toSender (sender c) (λ s. reply most g c) ≡ toSender (sender c) (freshReply most i o c)
       unfolding Alike freshReply
       reply-fresh c =
-          seen-reply size c (λ s. g)
-          ∙ ap (toSender (sender c)) (fun-ext (λ s. ap (stepReply size c) (alike s)))
-          ∙ sym (seen-reply size c (λ s. run size (setup size i (o .list) .station) (map (quiet s) (o .later))))
+          seen-reply most c (λ s. g)
+          ∙ ap (toSender (sender c)) (fun-ext (λ s. ap (stepReply most c) (alike s)))
+          ∙ sym (seen-reply most c (λ s. run most (setup most i (o .list) .station) (map (quiet s) (o .later))))
 
-    known-step : (g : Station) (c : Call) → Known i (g .identity) → Known i (step size g c .station .identity)
+    known-step : (g : Station) (c : Call) → Known i (g .identity) → Known i (step most g c .station .identity)
     known-step g c k = rw (step-identity g c) k
 
-    answers-fresh : (o : Origin) (g : Station) → Known i (g .identity) → Alike i o g → (cs : List Call) → answers size g cs ≡ freshAnswers size i o g cs
+    answers-fresh : (o : Origin) (g : Station) → Known i (g .identity) → Alike i o g → (cs : List Call) → answers most g cs ≡ freshAnswers most i o g cs
     unfolding answers freshAnswers
     answers-fresh o g k h [] = refl
     answers-fresh o g k h (c ∷ cs) =
         ap₂ _∷_ (reply-fresh o g h c)
-        (answers-fresh (since o c (step size g c .answer)) (step size g c .station) (known-step g c k) (alike-since o g h k c) cs)
+        (answers-fresh (since o c (step most g c .answer)) (step most g c .station) (known-step g c k) (alike-since o g h k c) cs)
 
-    alike-run : (o : Origin) (g : Station) → Known i (g .identity) → Alike i o g → (cs : List Call) → Alike i (origin size o g cs) (run size g cs)
+    alike-run : (o : Origin) (g : Station) → Known i (g .identity) → Alike i o g → (cs : List Call) → Alike i (origin most o g cs) (run most g cs)
     unfolding run origin
     alike-run o g k h [] = h
-    alike-run o g k h (c ∷ cs) = alike-run (since o c (step size g c .answer)) (step size g c .station) (known-step g c k) (alike-since o g h k c) cs
+    alike-run o g k h (c ∷ cs) = alike-run (since o c (step most g c .answer)) (step most g c .station) (known-step g c k) (alike-since o g h k c) cs
 
 -- Demand 3.
 pub independent : Independent

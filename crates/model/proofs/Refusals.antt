@@ -21,7 +21,7 @@ use Rattle.requests.specs.declared.Request.{Request}
 use Rattle.requests.specs.Requests.{requestCauses, readRequest}
 use Rattle.requests.proofs.Causes.{request-listed}
 use Rattle.events.specs.declared.Entry.{Entry}
-use Rattle.model.specs.Model.{Address, Requester, Station, Call, clock, logging, frame, report, roam, change, Answer, accepted, nothing, written, refused, Result}
+use Rattle.model.specs.Model.{Capacities, Address, Requester, Station, Call, clock, logging, frame, report, roam, change, Answer, accepted, nothing, written, refused, Result}
 use Rattle.model.specs.Requesters.{find, put}
 use Rattle.model.specs.Stations.{refusedFor, nobody, setup, tick, logCall, Served, withRequester, serveFound, serveListed, takeRequest, requestCall, frameCall, giveEvents, giveDiagnostics, ifOutstanding, octetsOf, giveKind, giveReport, reportCall, renameWith, rename, act, readingOf, step}
 use Rattle.model.specs.Refusals.{lentBuffer, causesOf, setupCauses, RefusedBy, LeftAlone, RefusedCall, LeftUnnamed, RefusedSetup}
@@ -84,14 +84,14 @@ module _ (causes : List ℕ) (a : Address) (serve : Requester → Served) (b : L
 abbrev frameCauses : List ℕ
 frameCauses = groupDestination ∷ unknownRequester ∷ requestCauses
 
-read-by : (o : List ℕ) → eqb (readRequest o .refusal .number) 0 ≡ false → RefusedBy frameCauses (readRequest o .refusal)
-read-by o z =
-    let m = among-behind (request-listed o) (eqb-false _ 0 z) in
+read-by : (n : ℕ) (o : List ℕ) → eqb (readRequest n o .refusal .number) 0 ≡ false → RefusedBy frameCauses (readRequest n o .refusal)
+read-by n o z =
+    let m = among-behind (request-listed n o) (eqb-false _ 0 z) in
     record { number = later (later m); place = λ past. absurd (omega (arith, past, among-at-most noElement _ requestCauses refl m)) }
 
-take-left : (t : ℕ) (log : List Entry) (o : List ℕ) (r : Requester) → Left frameCauses r [] (takeRequest t log (readRequest o) r)
+take-left : (n t : ℕ) (log : List Entry) (o : List ℕ) (r : Requester) → Left frameCauses r [] (takeRequest t log (readRequest n o) r)
 unfolding takeRequest
-take-left t log o r = either (Left frameCauses r []) _ _ _ (λ h. by-refusal frameCauses r [] _ (read-by o (not-true _ h))) (λ _ q e. never cc)
+take-left n t log o r = either (Left frameCauses r []) _ _ _ (λ h. by-refusal frameCauses r [] _ (read-by n o (not-true _ h))) (λ _ q e. never cc)
 
 -- ---- reports
 
@@ -118,43 +118,43 @@ module _ (b : List ℕ) (r : Requester) where
 abbrev renameCauses : List ℕ
 renameCauses = requesterList ∷ identity ∷ []
 
-module _ (log : List Entry) (l : List Address) (g : Station) where
+module _ (most : Capacities) (log : List Entry) (l : List Address) (g : Station) where
   renamed-kept : (o : Option (List ℕ)) → Kept renameCauses g [] (renameWith log l g o)
   unfolding renameWith
   renamed-kept none = by-cause renameCauses g [] identity (later first)
   renamed-kept (some i) = λ q e. never cc
 
-  rename-kept : Kept renameCauses g [] (rename log l g)
+  rename-kept : Kept renameCauses g [] (rename most log l g)
   unfolding rename
   rename-kept = either (Kept renameCauses g []) _ _ _ (λ _. by-cause renameCauses g [] requesterList first) (λ _. renamed-kept (g .identity))
 
 -- ---- every call
 
-act-kept : (c : Call) (g : Station) → Kept (causesOf c) g (lentBuffer c) (act c g)
+act-kept : (most : Capacities) (c : Call) (g : Station) → Kept (causesOf c) g (lentBuffer c) (act most c g)
 unfolding act causesOf lentBuffer logCall requestCall frameCall reportCall serveListed
-act-kept (clock t) g = λ q e. never cc
-act-kept (logging t e) g = either (Kept (timeField ∷ []) g []) _ _ _ (λ _. by-cause (timeField ∷ []) g [] timeField first) (λ _ q h. never cc)
-act-kept (frame t d a o) g =
+act-kept most (clock t) g = λ q e. never cc
+act-kept most (logging t e) g = either (Kept (timeField ∷ []) g []) _ _ _ (λ _. by-cause (timeField ∷ []) g [] timeField first) (λ _ q h. never cc)
+act-kept most (frame t d a o) g =
     either (Kept frameCauses g []) _ _ _ (λ _. by-cause frameCauses g [] groupDestination first)
-    (λ _. found-kept frameCauses a (takeRequest t (g .log) (readRequest o)) [] g (later first) (take-left t (g .log) o) (find a (g .requesters)) refl)
-act-kept (report t a k b) g =
+    (λ _. found-kept frameCauses a (takeRequest t (g .log) (readRequest (most .elements) o)) [] g (later first) (take-left (most .elements) t (g .log) o) (find a (g .requesters)) refl)
+act-kept most (report t a k b) g =
     found-kept reportCauses a (giveReport (g .identity) (g .log) k b) b g first (λ r. report-left b r (g .identity) (g .log) k) (find a (g .requesters)) refl
-act-kept (roam t l) g = rename-kept (g .log) l g
-act-kept (change t l) g = rename-kept [] l g
+act-kept most (roam t l) g = rename-kept most (g .log) l g
+act-kept most (change t l) g = rename-kept most [] l g
 
 pub refused-call : RefusedCall
 unfolding step act readingOf
-refused-call g c r h =
-    let p = act-kept c (tick (readingOf c) g) r h in
+refused-call most g c r h =
+    let p = act-kept most c (tick (readingOf c) g) r h in
     record { refusal = p .refusal; station = p .state; buffer = p .buffer }
 
 -- ---- setup
 
-setup-kept : (i : List ℕ) (l : List Address) → Kept setupCauses nobody [] (setup i l)
+setup-kept : (most : Capacities) (i : List ℕ) (l : List Address) → Kept setupCauses nobody [] (setup most i l)
 unfolding setup
-setup-kept i l =
+setup-kept most i l =
     either (Kept setupCauses nobody []) _ _ _ (λ _. by-cause setupCauses nobody [] requesterList first)
     (λ _. either (Kept setupCauses nobody []) _ _ _ (λ _. by-cause setupCauses nobody [] identity (later first)) (λ _ q e. never cc))
 
 pub refused-setup : RefusedSetup
-refused-setup i l r h = let p = setup-kept i l r h in record { refusal = p .refusal; station = p .state }
+refused-setup most i l r h = let p = setup-kept most i l r h in record { refusal = p .refusal; station = p .state }

@@ -17,7 +17,7 @@ use Rattle.octets.proofs.AddressLaws.{same-true}
 use Rattle.requests.specs.declared.Request.{Request}
 use Rattle.events.specs.declared.Entry.{Entry}
 use Rattle.events.specs.declared.Transition.{Transition}
-use Rattle.model.specs.Model.{Limits, Address, Requester, Station, Call, clock, logging, frame, report, roam, change, accepted, Result}
+use Rattle.model.specs.Model.{Capacities, Address, Requester, Station, Call, clock, logging, frame, report, roam, change, accepted, Result}
 use Rattle.requests.specs.Requests.{readRequest}
 use Rattle.events.specs.Log.{pushed, entryOf}
 use Rattle.model.specs.Requesters.{badList, newRequester, find, put}
@@ -88,10 +88,10 @@ onSlot f v = withSlot v (Option·map f (v .slot))
 tickSeen : ℕ → Seen → Seen
 tickSeen reading v = onSlot (tickRequester reading) v
 
-logSeen : Limits → ℕ → Transition → Seen → Seen
-logSeen k reading e v =
+logSeen : Capacities → ℕ → Transition → Seen → Seen
+logSeen most reading e v =
     if not (goodTime (e .time)) then v
-    else record { identity = v .identity; log = pushed (k .events) (v .log) (entryOf reading e); slot = Option·map (logRequester k (v .log)) (v .slot) }
+    else record { identity = v .identity; log = pushed (most .events) (v .log) (entryOf reading e); slot = Option·map (logRequester most (v .log)) (v .slot) }
 
 servedSeen : Address → Address → (Requester → Served) → Seen → Seen
 servedSeen s a serve v = if same a s then onSlot (λ r. serve r .requester) v else v
@@ -100,20 +100,20 @@ renamedSeen : Address → List Entry → List Address → Seen → Option (List 
 renamedSeen s log l v none = v
 renamedSeen s log l v (some i) = record { identity = some i; log = log; slot = find s (map newRequester l) }
 
-renameSeen : Limits → Address → List Entry → List Address → Seen → Seen
-renameSeen k s log l v = if badList (k .requesters) l then v else renamedSeen s log l v (v .identity)
+renameSeen : Capacities → Address → List Entry → List Address → Seen → Seen
+renameSeen most s log l v = if badList (most .requesters) l then v else renamedSeen s log l v (v .identity)
 
 -- what a call makes of it, the late diagnostics dropped
-actSeen : Limits → Address → Call → Seen → Seen
-actSeen k s (clock t) v = v
-actSeen k s (logging t e) v = logSeen k t e v
-actSeen k s (frame t d a o) v = if isGroup d then v else servedSeen s a (takeRequest t (v .log) (readRequest o)) v
-actSeen k s (report t a kind b) v = servedSeen s a (giveReport (v .identity) (v .log) kind b) v
-actSeen k s (roam t l) v = renameSeen k s (v .log) l v
-actSeen k s (change t l) v = renameSeen k s [] l v
+actSeen : Capacities → Address → Call → Seen → Seen
+actSeen most s (clock t) v = v
+actSeen most s (logging t e) v = logSeen most t e v
+actSeen most s (frame t d a o) v = if isGroup d then v else servedSeen s a (takeRequest t (v .log) (readRequest (most .elements) o)) v
+actSeen most s (report t a kind b) v = servedSeen s a (giveReport (v .identity) (v .log) kind b) v
+actSeen most s (roam t l) v = renameSeen most s (v .log) l v
+actSeen most s (change t l) v = renameSeen most s [] l v
 
-pub stepSeen : Limits → Address → Call → Seen → Seen
-stepSeen k s c v = actSeen k s c (tickSeen (readingOf c) v)
+pub stepSeen : Capacities → Address → Call → Seen → Seen
+stepSeen most s c v = actSeen most s c (tickSeen (readingOf c) v)
 
 -- ---- every piece keeps the address
 
@@ -121,9 +121,9 @@ tick-keeps : (reading : ℕ) → Keeps (tickRequester reading)
 unfolding tickRequester
 tick-keeps reading r = refl
 
-log-keeps : (k : Limits) (log : List Entry) → Keeps (logRequester k log)
+log-keeps : (most : Capacities) (log : List Entry) → Keeps (logRequester most log)
 unfolding logRequester lowerRequester
-log-keeps k log r = either (λ (x : Requester). x .address ≡ r .address) _ _ _ (λ _. refl) (λ _. refl)
+log-keeps most log r = either (λ (x : Requester). x .address ≡ r .address) _ _ _ (λ _. refl) (λ _. refl)
 
 kind-keeps : (reading : ℕ) (log : List Entry) (q : Request) (r : Requester) (k : Kind) → takeKind reading log q r k .address ≡ r .address
 unfolding takeKind
@@ -161,12 +161,12 @@ seen-tick : (s : Address) (reading : ℕ) (g : Station) → seen s (tick reading
 unfolding seen tick tickSeen
 seen-tick s reading g = ap (withSlot (seen s g)) (find-map (tickRequester reading) (tick-keeps reading) s (g .requesters))
 
-seen-log : (k : Limits) (s : Address) (reading : ℕ) (e : Transition) (g : Station) → seen s (logCall k reading e g .station) ≡ logSeen k reading e (seen s g)
+seen-log : (most : Capacities) (s : Address) (reading : ℕ) (e : Transition) (g : Station) → seen s (logCall most reading e g .station) ≡ logSeen most reading e (seen s g)
 unfolding seen logCall logEntry logSeen
-seen-log k s reading e g =
+seen-log most s reading e g =
     apply-if (λ (x : Result). seen s (x .station)) (not (goodTime (e .time))) _ _
-    ∙ ap (λ (o : Option Requester). if not (goodTime (e .time)) then seen s g else record { identity = g .identity; log = pushed (k .events) (g .log) (entryOf reading e); slot = o })
-    (find-map (logRequester k (g .log)) (log-keeps k (g .log)) s (g .requesters))
+    ∙ ap (λ (o : Option Requester). if not (goodTime (e .time)) then seen s g else record { identity = g .identity; log = pushed (most .events) (g .log) (entryOf reading e); slot = o })
+    (find-map (logRequester most (g .log)) (log-keeps most (g .log)) s (g .requesters))
 
 module _ (s a : Address) (serve : Requester → Served) (b : List ℕ) (g : Station) (keeps : ServeKeeps serve) where
   seen-found : (o : Option Requester) → find a (g .requesters) ≡ o → (t : Bool) → same a s ≡ t
@@ -195,27 +195,27 @@ unfolding seen renameWith renamedSeen
 seen-renamed s log l g none = refl
 seen-renamed s log l g (some i) = refl
 
-seen-rename : (k : Limits) (s : Address) (log : List Entry) (l : List Address) (g : Station) → seen s (rename k log l g .station) ≡ renameSeen k s log l (seen s g)
+seen-rename : (most : Capacities) (s : Address) (log : List Entry) (l : List Address) (g : Station) → seen s (rename most log l g .station) ≡ renameSeen most s log l (seen s g)
 unfolding rename renameSeen seen
-seen-rename k s log l g =
-    apply-if (λ (x : Result). seen s (x .station)) (badList (k .requesters) l) _ _
-    ∙ ap (λ (v : Seen). if badList (k .requesters) l then seen s g else v) (seen-renamed s log l g (g .identity))
+seen-rename most s log l g =
+    apply-if (λ (x : Result). seen s (x .station)) (badList (most .requesters) l) _ _
+    ∙ ap (λ (v : Seen). if badList (most .requesters) l then seen s g else v) (seen-renamed s log l g (g .identity))
 
-seen-act : (k : Limits) (s : Address) (c : Call) (g : Station) → seen s (act k c g .station) ≡ actSeen k s c (seen s g)
+seen-act : (most : Capacities) (s : Address) (c : Call) (g : Station) → seen s (act most c g .station) ≡ actSeen most s c (seen s g)
 unfolding act actSeen seen requestCall frameCall reportCall
-seen-act k s (clock t) g = refl
-seen-act k s (logging t e) g = seen-log k s t e g
-seen-act k s (frame t d a o) g =
+seen-act most s (clock t) g = refl
+seen-act most s (logging t e) g = seen-log most s t e g
+seen-act most s (frame t d a o) g =
     apply-if (λ (x : Result). seen s (x .station)) (isGroup d) _ _
     ∙ ap (λ (v : Seen). if isGroup d then seen s g else v)
-    (seen-served s a (takeRequest t (g .log) (readRequest o)) [] g (take-keeps t (g .log) (readRequest o)))
-seen-act k s (report t a kind b) g = seen-served s a (giveReport (g .identity) (g .log) kind b) b g (give-keeps (g .identity) (g .log) kind b)
-seen-act k s (roam t l) g = seen-rename k s (g .log) l g
-seen-act k s (change t l) g = seen-rename k s [] l g
+    (seen-served s a (takeRequest t (g .log) (readRequest (most .elements) o)) [] g (take-keeps t (g .log) (readRequest (most .elements) o)))
+seen-act most s (report t a kind b) g = seen-served s a (giveReport (g .identity) (g .log) kind b) b g (give-keeps (g .identity) (g .log) kind b)
+seen-act most s (roam t l) g = seen-rename most s (g .log) l g
+seen-act most s (change t l) g = seen-rename most s [] l g
 
-pub seen-step : (k : Limits) (s : Address) (c : Call) (g : Station) → seen s (step k g c .station) ≡ stepSeen k s c (seen s g)
+pub seen-step : (most : Capacities) (s : Address) (c : Call) (g : Station) → seen s (step most g c .station) ≡ stepSeen most s c (seen s g)
 unfolding step stepSeen
-seen-step k s c g = seen-act k s c (tick (readingOf c) g) ∙ ap (actSeen k s c) (seen-tick s (readingOf c) g)
+seen-step most s c g = seen-act most s c (tick (readingOf c) g) ∙ ap (actSeen most s c) (seen-tick s (readingOf c) g)
 
 -- ---- a call of another sender makes of it what a bare clock reading does
 
@@ -223,22 +223,22 @@ unserved : (s a : Address) (serve : Requester → Served) (v : Seen) → same a 
 unfolding servedSeen if_then_else_
 unserved s a serve v e = rw e
 
-pub quiet-step : (k : Limits) (s : Address) (c : Call) (v : Seen) → stepSeen k s (quiet s c) v ≡ stepSeen k s c v
+pub quiet-step : (most : Capacities) (s : Address) (c : Call) (v : Seen) → stepSeen most s (quiet s c) v ≡ stepSeen most s c v
 unfolding stepSeen sender quietFor actSeen readingOf if_then_else_
-quiet-step k s (clock t) v = refl
-quiet-step k s (logging t e) v = refl
-quiet-step k s (frame t d a o) v = go (same a s) refl (isGroup d)
+quiet-step most s (clock t) v = refl
+quiet-step most s (logging t e) v = refl
+quiet-step most s (frame t d a o) v = go (same a s) refl (isGroup d)
   where
     w : Seen
     w = tickSeen t v
 
     serve : Requester → Served
-    serve = takeRequest t (w .log) (readRequest o)
+    serve = takeRequest t (w .log) (readRequest (most .elements) o)
 
-    go : (b : Bool) → same a s ≡ b → (h : Bool) → stepSeen k s (if b then frame t d a o else clock t) v ≡ (if isGroup d then w else servedSeen s a serve w)
+    go : (b : Bool) → same a s ≡ b → (h : Bool) → stepSeen most s (if b then frame t d a o else clock t) v ≡ (if isGroup d then w else servedSeen s a serve w)
     go true e h = refl
     go false e h = either (λ (x : Seen). w ≡ x) (isGroup d) w (servedSeen s a serve w) (λ _. refl) (λ _. sym (unserved s a serve w e))
-quiet-step k s (report t a kind b) v = go (same a s) refl
+quiet-step most s (report t a kind b) v = go (same a s) refl
   where
     w : Seen
     w = tickSeen t v
@@ -246,11 +246,11 @@ quiet-step k s (report t a kind b) v = go (same a s) refl
     serve : Requester → Served
     serve = giveReport (w .identity) (w .log) kind b
 
-    go : (x : Bool) → same a s ≡ x → stepSeen k s (if x then report t a kind b else clock t) v ≡ servedSeen s a serve w
+    go : (x : Bool) → same a s ≡ x → stepSeen most s (if x then report t a kind b else clock t) v ≡ servedSeen s a serve w
     go true e = refl
     go false e = sym (unserved s a serve w e)
-quiet-step k s (roam t l) v = refl
-quiet-step k s (change t l) v = refl
+quiet-step most s (roam t l) v = refl
+quiet-step most s (change t l) v = refl
 
 -- ---- the reply to a sender follows from what it sees
 
@@ -262,18 +262,18 @@ servedReply serve b none = record { answer = refusedFor unknownRequester; buffer
 servedReply serve b (some r) = record { answer = serve r .answer; buffer = serve r .buffer }
 
 -- of a call that has a sender
-seenReply : Limits → Call → Seen → Reply
-seenReply k (frame t d a o) v =
+seenReply : Capacities → Call → Seen → Reply
+seenReply most (frame t d a o) v =
     if isGroup d then record { answer = refusedFor groupDestination; buffer = [] }
-    else servedReply (takeRequest t (v .log) (readRequest o)) [] (v .slot)
-seenReply k (report t a kind b) v = servedReply (giveReport (v .identity) (v .log) kind b) b (v .slot)
-seenReply k (clock t) v = record { answer = accepted; buffer = [] }
-seenReply k (logging t e) v = record { answer = accepted; buffer = [] }
-seenReply k (roam t l) v = record { answer = accepted; buffer = [] }
-seenReply k (change t l) v = record { answer = accepted; buffer = [] }
+    else servedReply (takeRequest t (v .log) (readRequest (most .elements) o)) [] (v .slot)
+seenReply most (report t a kind b) v = servedReply (giveReport (v .identity) (v .log) kind b) b (v .slot)
+seenReply most (clock t) v = record { answer = accepted; buffer = [] }
+seenReply most (logging t e) v = record { answer = accepted; buffer = [] }
+seenReply most (roam t l) v = record { answer = accepted; buffer = [] }
+seenReply most (change t l) v = record { answer = accepted; buffer = [] }
 
-pub stepReply : Limits → Call → Seen → Reply
-stepReply k c v = seenReply k c (tickSeen (readingOf c) v)
+pub stepReply : Capacities → Call → Seen → Reply
+stepReply most c v = seenReply most c (tickSeen (readingOf c) v)
 
 reply-found : (a : Address) (serve : Requester → Served) (b : List ℕ) (g : Station) (o : Option Requester)
     → replyOf (serveFound a serve b g o) ≡ servedReply serve b o
@@ -281,25 +281,25 @@ unfolding serveFound servedReply
 reply-found a serve b g none = refl
 reply-found a serve b g (some r) = refl
 
-module _ (k : Limits) (t : ℕ) (a : Address) where
-  frame-reply : (d : Address) (o : List ℕ) (g : Station) → replyOf (act k (frame t d a o) g) ≡ seenReply k (frame t d a o) (seen a g)
+module _ (most : Capacities) (t : ℕ) (a : Address) where
+  frame-reply : (d : Address) (o : List ℕ) (g : Station) → replyOf (act most (frame t d a o) g) ≡ seenReply most (frame t d a o) (seen a g)
   unfolding act requestCall frameCall serveListed seenReply seen
   frame-reply d o g =
       apply-if replyOf (isGroup d) _ _
       ∙ ap (λ (x : Reply). if isGroup d then record { answer = refusedFor groupDestination; buffer = [] } else x)
-      (reply-found a (takeRequest t (g .log) (readRequest o)) [] g (find a (g .requesters)))
+      (reply-found a (takeRequest t (g .log) (readRequest (most .elements) o)) [] g (find a (g .requesters)))
 
-  report-reply : (kind : Kind) (b : List ℕ) (g : Station) → replyOf (act k (report t a kind b) g) ≡ seenReply k (report t a kind b) (seen a g)
+  report-reply : (kind : Kind) (b : List ℕ) (g : Station) → replyOf (act most (report t a kind b) g) ≡ seenReply most (report t a kind b) (seen a g)
   unfolding act reportCall serveListed seenReply seen
   report-reply kind b g = reply-found a (giveReport (g .identity) (g .log) kind b) b g (find a (g .requesters))
 
-pub seen-reply : (k : Limits) (c : Call) (g : Address → Station) → toSender (sender c) (λ s. reply k (g s) c) ≡ toSender (sender c) (λ s. stepReply k c (seen s (g s)))
+pub seen-reply : (most : Capacities) (c : Call) (g : Address → Station) → toSender (sender c) (λ s. reply most (g s) c) ≡ toSender (sender c) (λ s. stepReply most c (seen s (g s)))
 unfolding reply step sender toSender readingOf stepReply
-seen-reply k (clock t) g = refl
-seen-reply k (logging t e) g = refl
-seen-reply k (frame t d a o) g =
-    ap (λ (x : Reply). some x) (frame-reply k t a d o (tick t (g a)) ∙ ap (seenReply k (frame t d a o)) (seen-tick a t (g a)))
-seen-reply k (report t a kind b) g =
-    ap (λ (x : Reply). some x) (report-reply k t a kind b (tick t (g a)) ∙ ap (seenReply k (report t a kind b)) (seen-tick a t (g a)))
-seen-reply k (roam t l) g = refl
-seen-reply k (change t l) g = refl
+seen-reply most (clock t) g = refl
+seen-reply most (logging t e) g = refl
+seen-reply most (frame t d a o) g =
+    ap (λ (x : Reply). some x) (frame-reply most t a d o (tick t (g a)) ∙ ap (seenReply most (frame t d a o)) (seen-tick a t (g a)))
+seen-reply most (report t a kind b) g =
+    ap (λ (x : Reply). some x) (report-reply most t a kind b (tick t (g a)) ∙ ap (seenReply most (report t a kind b)) (seen-tick a t (g a)))
+seen-reply most (roam t l) g = refl
+seen-reply most (change t l) g = refl

@@ -16,10 +16,10 @@ use Rattle.laws.proofs.Choice.{either, never}
 use Rattle.octets.specs.Times.{goodTime}
 use Rattle.events.specs.declared.Entry.{Entry}
 use Rattle.events.specs.declared.Transition.{Transition}
-use Rattle.events.specs.Log.{capacity, pushed, entryOf}
+use Rattle.events.specs.Log.{pushed, entryOf}
 use Rattle.events.specs.Loggings.{Logging, entryFor}
 use Rattle.identities.specs.Identity.{goodIdentity}
-use Rattle.model.specs.Model.{Address, Requester, Station, Call, clock, logging, frame, report, roam, change, Result}
+use Rattle.model.specs.Model.{Capacities, Address, Requester, Station, Call, clock, logging, frame, report, roam, change, Result}
 use Rattle.model.specs.Requesters.{newRequester, find, put}
 use Rattle.model.specs.Stations.{nobody, newStation, setup, tickRequester, tick, logRequester, logEntry, logCall, Served, withRequester, serveFound, serveListed, requestCall, frameCall, reportCall, renameWith, rename, act, readingOf, step}
 use Rattle.model.specs.Runs.{run}
@@ -46,9 +46,9 @@ module _ (cs : List Call) where
     timed = all-end (j .list) (j .timed) t;
   }
 
-  logged-pushed : (log : List Entry) (x : Logging) → LoggedBy cs log → Among (loggingCall x) cs → goodTime (x .transition .time) ≡ true → LoggedBy cs (pushed capacity log (entryFor x))
+  logged-pushed : (n : ℕ) (log : List Entry) (x : Logging) → LoggedBy cs log → Among (loggingCall x) cs → goodTime (x .transition .time) ≡ true → LoggedBy cs (pushed n log (entryFor x))
   unfolding pushed
-  logged-pushed log x j = logged-more _ x (either (LoggedBy cs) (ltb (length log) capacity) log (drop 1 log) (λ _. j) (λ _. logged-less log j))
+  logged-pushed n log x j = logged-more _ x (either (LoggedBy cs) (ltb (length log) n) log (drop 1 log) (λ _. j) (λ _. logged-less log j))
 
 -- ---- the identity
 
@@ -63,7 +63,7 @@ module _ (i : List ℕ) where
 
 -- ---- calls
 
-module _ (i : List ℕ) (cs : List Call) where
+module _ (most : Capacities) (i : List ℕ) (cs : List Call) where
   abbrev After : Result → Type 0
   After x = Sound i cs (x .station)
 
@@ -78,20 +78,20 @@ module _ (i : List ℕ) (cs : List Call) where
     sound-renamed log l j none e = s
     sound-renamed log l j (some k) e = record { log = j; identity = identified-named i g k log l e (s .identity) }
 
-    sound-rename : (log : List Entry) (l : List Address) → LoggedBy cs log → After (rename log l g)
+    sound-rename : (log : List Entry) (l : List Address) → LoggedBy cs log → After (rename most log l g)
     unfolding rename
     sound-rename log l j = either After _ _ _ (λ _. s) (λ _. sound-renamed log l j (g .identity) refl)
 
-    sound-logging : (t : ℕ) (e : Transition) → Among (logging t e) cs → After (logCall t e g)
+    sound-logging : (t : ℕ) (e : Transition) → Among (logging t e) cs → After (logCall most t e g)
     unfolding logCall logEntry
     sound-logging t e m =
         either After _ _ _ (λ _. s)
         (λ h. record {
-          log = logged-pushed cs (g .log) (record { reading = t; transition = e }) (s .log) m (not-false _ h);
-          identity = identified-kept i g _ refl (λ p. ap (map (logRequester (g .log))) p) (s .identity);
+          log = logged-pushed cs (most .events) (g .log) (record { reading = t; transition = e }) (s .log) m (not-false _ h);
+          identity = identified-kept i g _ refl (λ p. ap (map (logRequester most (g .log))) p) (s .identity);
         })
 
-    sound-act : (c : Call) → Among c cs → After (act c g)
+    sound-act : (c : Call) → Among c cs → After (act most c g)
     unfolding act requestCall frameCall reportCall serveListed
     sound-act (clock t) m = s
     sound-act (logging t e) m = sound-logging t e m
@@ -104,19 +104,19 @@ module _ (i : List ℕ) (cs : List Call) where
   unfolding tick
   sound-tick t g s = record { log = s .log; identity = identified-kept i g _ refl (λ e. ap (map (tickRequester t)) e) (s .identity) }
 
-  sound-step : (g : Station) (c : Call) → Among c cs → Sound i cs g → Sound i cs (step g c .station)
+  sound-step : (g : Station) (c : Call) → Among c cs → Sound i cs g → Sound i cs (step most g c .station)
   unfolding step
   sound-step g c m s = sound-act (tick (readingOf c) g) (sound-tick (readingOf c) g s) c m
 
-  sound-run : (later-calls : List Call) → ((c : Call) → Among c later-calls → Among c cs) → (g : Station) → Sound i cs g → Sound i cs (run g later-calls)
+  sound-run : (later-calls : List Call) → ((c : Call) → Among c later-calls → Among c cs) → (g : Station) → Sound i cs g → Sound i cs (run most g later-calls)
   unfolding run
   sound-run [] f g s = s
-  sound-run (c ∷ rest) f g s = sound-run rest (λ x m. f x (later m)) (step g c .station) (sound-step g c (f c first) s)
+  sound-run (c ∷ rest) f g s = sound-run rest (λ x m. f x (later m)) (step most g c .station) (sound-step g c (f c first) s)
 
   sound-nobody : Sound i cs nobody
   sound-nobody = record { log = logged-empty cs; identity = unnamed refl refl }
 
-  sound-setup : (l : List Address) → Sound i cs (setup i l .station)
+  sound-setup : (l : List Address) → Sound i cs (setup most i l .station)
   unfolding setup
   sound-setup l =
       either After _ _ _ (λ _. sound-nobody)
@@ -124,7 +124,7 @@ module _ (i : List ℕ) (cs : List Call) where
 
 pub always-sound : AlwaysSound
 always-sound = record {
-  at-setup = λ i l cs. sound-setup i cs l;
-  kept = λ i cs g c. sound-step i cs g c;
-  after = λ i l cs. sound-run i cs cs (λ c m. m) (setup i l .station) (sound-setup i cs l);
+  at-setup = λ most i l cs. sound-setup most i cs l;
+  kept = λ most i cs g c. sound-step most i cs g c;
+  after = λ most i l cs. sound-run most i cs cs (λ c m. m) (setup most i l .station) (sound-setup most i cs l);
 }

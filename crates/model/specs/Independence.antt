@@ -8,7 +8,7 @@ use mathlib.Core.List.{List, [], _∷_, _++_, map}
 use mathlib.Core.Option.{Option, none, some}
 use Rattle.laws.specs.Choice.{if_then_else_}
 use Rattle.octets.specs.Addresses.{same}
-use Rattle.model.specs.Model.{Limits, Address, Station, Call, clock, logging, frame, report, roam, change, Answer, accepted, nothing, written, refused}
+use Rattle.model.specs.Model.{Capacities, Address, Station, Call, clock, logging, frame, report, roam, change, Answer, accepted, nothing, written, refused}
 use Rattle.model.specs.Stations.{setup, readingOf, step}
 use Rattle.model.specs.Runs.{run, sender, Reply, reply, toSender}
 
@@ -49,31 +49,31 @@ since o (roam t l) a = longer o (roam t l)
 
 -- what a newly set up station answers to the call c of a sender s: it has the identity i and the origin's list, and is run through the
 -- later calls
-unfoldable pub freshReply : Limits → List ℕ → Origin → Call → Address → Reply
-freshReply k i o c s = reply k (run k (setup k i (o .list) .station) (map (quiet s) (o .later))) c
+unfoldable pub freshReply : Capacities → List ℕ → Origin → Call → Address → Reply
+freshReply most i o c s = reply most (run most (setup most i (o .list) .station) (map (quiet s) (o .later))) c
 
 -- the answers to requesters in a list of calls on the station g, in order; none at a call without a sender
-unfoldable pub answers : Limits → Station → List Call → List (Option Reply)
-answers k g [] = []
-answers k g (c ∷ cs) = toSender (sender c) (λ s. reply k g c) ∷ answers k (step k g c .station) cs
+unfoldable pub answers : Capacities → Station → List Call → List (Option Reply)
+answers most g [] = []
+answers most g (c ∷ cs) = toSender (sender c) (λ s. reply most g c) ∷ answers most (step most g c .station) cs
 
 -- the same list with each answer taken from a newly set up station; of the station g that the list runs on it only takes which network
 -- changes were accepted
-unfoldable pub freshAnswers : Limits → List ℕ → Origin → Station → List Call → List (Option Reply)
-freshAnswers k i o g [] = []
-freshAnswers k i o g (c ∷ cs) =
-    toSender (sender c) (freshReply k i o c) ∷ freshAnswers k i (since o c (step k g c .answer)) (step k g c .station) cs
+unfoldable pub freshAnswers : Capacities → List ℕ → Origin → Station → List Call → List (Option Reply)
+freshAnswers most i o g [] = []
+freshAnswers most i o g (c ∷ cs) =
+    toSender (sender c) (freshReply most i o c) ∷ freshAnswers most i (since o c (step most g c .answer)) (step most g c .station) cs
 
 -- Demand 3: for every identity and list that setup was given, "accepted or refused", and every list of calls
 abbrev pub Independent : Type 0
-Independent = (k : Limits) (i : List ℕ) (l : List Address) (cs : List Call) → answers k (setup k i l .station) cs ≡ freshAnswers k i (from l) (setup k i l .station) cs
+Independent = (most : Capacities) (i : List ℕ) (l : List Address) (cs : List Call) → answers most (setup most i l .station) cs ≡ freshAnswers most i (from l) (setup most i l .station) cs
 
 -- The same said of one call and those before it.
-unfoldable pub origin : Limits → Origin → Station → List Call → Origin
-origin k o g [] = o
-origin k o g (c ∷ cs) = origin k (since o c (step k g c .answer)) (step k g c .station) cs
+unfoldable pub origin : Capacities → Origin → Station → List Call → Origin
+origin most o g [] = o
+origin most o g (c ∷ cs) = origin most (since o c (step most g c .answer)) (step most g c .station) cs
 
 abbrev pub IndependentCall : Type 0
 IndependentCall =
-    (k : Limits) (i : List ℕ) (l : List Address) (earlier : List Call) (c : Call) (s : Address) → sender c ≡ some s
-    → reply k (run k (setup k i l .station) earlier) c ≡ freshReply k i (origin k (from l) (setup k i l .station) earlier) c s
+    (most : Capacities) (i : List ℕ) (l : List Address) (earlier : List Call) (c : Call) (s : Address) → sender c ≡ some s
+    → reply most (run most (setup most i l .station) earlier) c ≡ freshReply most i (origin most (from l) (setup most i l .station) earlier) c s

@@ -8,21 +8,23 @@ use Rattle.octets.specs.declared.refusals.Refusal.{Refusal}
 use Rattle.requests.specs.declared.Element.{Element}
 use Rattle.events.specs.declared.Entry.{Entry}
 use Rattle.events.specs.declared.Transition.{Transition}
+use Rattle.requests.specs.Elements.{elementCapacity}
+use Rattle.events.specs.Log.{logCapacity}
 use Rattle.model.specs.declared.Diagnostic.{Diagnostic}
 
 -- how much a station holds: events in its log, requesters, elements of a request frame
-pub record Limits : Type 0 where
+pub record Capacities : Type 0 where
   pub events : ℕ
   pub requesters : ℕ
   pub elements : ℕ
 
--- "one to four consoles", "Ninth request element", "The log holds 64 events"
-abbrev pub full : Limits
-full = record { events = 64; requesters = 4; elements = 8 }
+-- "Setup names the identity and one to four consoles."
+abbrev pub requesterCapacity : ℕ
+requesterCapacity = 4
 
--- "A small gate has one console, one element a frame and eight events."
-abbrev pub small : Limits
-small = record { events = 8; requesters = 1; elements = 1 }
+-- document 01's gate
+abbrev pub standard : Capacities
+standard = record { events = logCapacity; requesters = requesterCapacity; elements = elementCapacity }
 
 -- six octets
 abbrev pub Address : Type 0

@@ -1,4 +1,4 @@
--- Demand 1: what a refused call leaves, and by which causes a call is refused. Claims about every station and every call; their proofs are
+-- Demand 1: what a refused call leaves, and by which causes a call is refused. Claims about every station, whatever its capacities, and every call; their proofs are
 -- in proofs/Refusals.antt.
 -- Assumes nothing.
 use Prim.Native.Nat.{ℕ, _<_}
@@ -8,7 +8,7 @@ use Rattle.laws.specs.Members.{Among}
 use Rattle.octets.specs.declared.refusals.Refusal.{Refusal}
 use Rattle.octets.specs.Refusals.{noElement, groupDestination, unknownRequester, shortBuffer, timeField, requesterList, identity}
 use Rattle.requests.specs.Requests.{requestCauses}
-use Rattle.model.specs.Model.{Address, Station, Call, clock, logging, frame, report, roam, change, refused}
+use Rattle.model.specs.Model.{Capacities, Address, Station, Call, clock, logging, frame, report, roam, change, refused}
 use Rattle.model.specs.Stations.{nobody, setup, readingOf, step}
 
 -- the lent buffer of a call at entry ([] where none is lent)
@@ -40,18 +40,18 @@ pub record RefusedBy (causes : List ℕ) (r : Refusal) : Type 0 where
   pub place : noElement < r .number → r .place ≡ 0
 
 -- "A refusal .. writes no octet of a lent buffer, and leaves a gate as a bare clock reading would."
-pub record LeftAlone (g : Station) (c : Call) (r : Refusal) : Type 0 where
+pub record LeftAlone (most : Capacities) (g : Station) (c : Call) (r : Refusal) : Type 0 where
   pub refusal : RefusedBy (causesOf c) r
-  pub station : step g c .station ≡ step g (clock (readingOf c)) .station
-  pub buffer : step g c .buffer ≡ lentBuffer c
+  pub station : step most g c .station ≡ step most g (clock (readingOf c)) .station
+  pub buffer : step most g c .buffer ≡ lentBuffer c
 
 abbrev pub RefusedCall : Type 0
-RefusedCall = (g : Station) (c : Call) (r : Refusal) → step g c .answer ≡ refused r → LeftAlone g c r
+RefusedCall = (most : Capacities) (g : Station) (c : Call) (r : Refusal) → step most g c .answer ≡ refused r → LeftAlone most g c r
 
 -- "setup yields a gate with no console. .. Setup refused by 15 yields the same consoleless gate."
-pub record LeftUnnamed (i : List ℕ) (l : List Address) (r : Refusal) : Type 0 where
+pub record LeftUnnamed (most : Capacities) (i : List ℕ) (l : List Address) (r : Refusal) : Type 0 where
   pub refusal : RefusedBy setupCauses r
-  pub station : setup i l .station ≡ nobody
+  pub station : setup most i l .station ≡ nobody
 
 abbrev pub RefusedSetup : Type 0
-RefusedSetup = (i : List ℕ) (l : List Address) (r : Refusal) → setup i l .answer ≡ refused r → LeftUnnamed i l r
+RefusedSetup = (most : Capacities) (i : List ℕ) (l : List Address) (r : Refusal) → setup most i l .answer ≡ refused r → LeftUnnamed most i l r

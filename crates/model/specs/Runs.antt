@@ -3,13 +3,13 @@
 use Prim.Native.Nat.{ℕ}
 use mathlib.Core.List.{List, [], _∷_}
 use mathlib.Core.Option.{Option, none, some}
-use Rattle.model.specs.Model.{Limits, Address, Station, Call, clock, logging, frame, report, roam, change, Answer}
+use Rattle.model.specs.Model.{Capacities, Address, Station, Call, clock, logging, frame, report, roam, change, Answer}
 use Rattle.model.specs.Stations.{step}
 
 -- the station after a list of calls: each call is on the station that the one before it returned
-unfoldable pub run : Limits → Station → List Call → Station
-run k g [] = g
-run k g (c ∷ cs) = run k (step k g c .station) cs
+unfoldable pub run : Capacities → Station → List Call → Station
+run most g [] = g
+run most g (c ∷ cs) = run most (step most g c .station) cs
 
 -- "Sender: the source a frame call carries or the console a report call names"
 unfoldable pub sender : Call → Option Address
@@ -25,8 +25,8 @@ pub record Reply : Type 0 where
   pub answer : Answer
   pub buffer : List ℕ
 
-unfoldable pub reply : Limits → Station → Call → Reply
-reply k g c = record { answer = step k g c .answer; buffer = step k g c .buffer }
+unfoldable pub reply : Capacities → Station → Call → Reply
+reply most g c = record { answer = step most g c .answer; buffer = step most g c .buffer }
 
 -- "an answer is to its sender, listed or not": a call without a sender answers no requester
 unfoldable pub toSender : Option Address → (Address → Reply) → Option Reply

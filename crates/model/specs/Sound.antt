@@ -11,7 +11,7 @@ use Rattle.octets.specs.Times.{goodTime}
 use Rattle.events.specs.declared.Entry.{Entry}
 use Rattle.events.specs.Loggings.{Logging, entryFor}
 use Rattle.identities.specs.Identity.{goodIdentity}
-use Rattle.model.specs.Model.{Address, Station, Call, logging}
+use Rattle.model.specs.Model.{Capacities, Address, Station, Call, logging}
 use Rattle.model.specs.Stations.{setup, step}
 use Rattle.model.specs.Runs.{run}
 
@@ -36,6 +36,6 @@ pub record Sound (i : List ℕ) (cs : List Call) (g : Station) : Type 0 where
 
 -- setup gives it, every call of the list keeps it, and so it holds after the list
 pub record AlwaysSound : Type 0 where
-  pub at-setup : (i : List ℕ) (l : List Address) (cs : List Call) → Sound i cs (setup i l .station)
-  pub kept : (i : List ℕ) (cs : List Call) (g : Station) (c : Call) → Among c cs → Sound i cs g → Sound i cs (step g c .station)
-  pub after : (i : List ℕ) (l : List Address) (cs : List Call) → Sound i cs (run (setup i l .station) cs)
+  pub at-setup : (most : Capacities) (i : List ℕ) (l : List Address) (cs : List Call) → Sound i cs (setup most i l .station)
+  pub kept : (most : Capacities) (i : List ℕ) (cs : List Call) (g : Station) (c : Call) → Among c cs → Sound i cs g → Sound i cs (step most g c .station)
+  pub after : (most : Capacities) (i : List ℕ) (l : List Address) (cs : List Call) → Sound i cs (run most (setup most i l .station) cs)

@@ -10,6 +10,7 @@ use lib.Dec.{eqb}
 use Rattle.units.specs.Time.{age, tusOf}
 use Rattle.subelements.specs.declared.Condition.{Condition}
 use Rattle.subelements.specs.Subelements.{absent}
+use Rattle.requests.specs.Elements.{elementCapacity}
 use Rattle.requests.specs.Requests.{readRequest}
 use Rattle.events.specs.declared.Entry.{Entry}
 use Rattle.events.specs.declared.Transition.{Transition}
@@ -79,7 +80,7 @@ equal false b = not b
 unfoldable pub caseHolds : Case → Bool
 caseHolds (transition departure arrival milliseconds tus) = eqb (age arrival departure) milliseconds && eqb (tusOf milliseconds) tus
 caseHolds (aged milliseconds tus) = eqb (tusOf milliseconds) tus
-caseHolds (refusedFrame o number place) = eqb (readRequest o .refusal .number) number && eqb (readRequest o .refusal .place) place
+caseHolds (refusedFrame o number place) = eqb (readRequest elementCapacity o .refusal .number) number && eqb (readRequest elementCapacity o .refusal .place) place
 caseHolds (timeout seconds accepted reading alive) =
     equal alive (outstanding (dropLate reading (some (record { dialog = 1; accepted = accepted; elements = record { token = 1; ty = 1; timeout = seconds } ∷ [] }))))
 caseHolds (threshold tus met) = equal met (meets (slow ∷ []) 0 (leastTransition tus) 0)

@@ -15,6 +15,7 @@ use Rattle.octets.specs.Numbers.{requestAction, requestId}
 use Rattle.octets.specs.Text.{decimal}
 use Rattle.requests.specs.declared.Element.{Element}
 use Rattle.requests.specs.declared.Request.{Request}
+use Rattle.requests.specs.Elements.{elementCapacity}
 use Rattle.requests.specs.Requests.{readRequest}
 
 -- ---- words, each with the spaces around it
@@ -110,7 +111,7 @@ listed r s = if ltb (length s) listingBuffer then wrote 0 s else wrote (length (
 
 -- what the frame program prints of a frame
 abbrev pub listFrame : List ℕ → List ℕ → Written
-listFrame frame s = listed (readRequest frame) s
+listFrame frame s = listed (readRequest elementCapacity frame) s
 
 -- the answer lies within the buffer. The second part follows from the first; with both, a program that lends the text on needs no proof file
 abbrev pub Within : ℕ → List ℕ → Type 0

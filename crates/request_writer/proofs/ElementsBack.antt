@@ -27,7 +27,7 @@ use Rattle.octets.proofs.ElementLaws.{piece-stands}
 use Rattle.octets.proofs.FieldLaws.{pair-halves}
 use Rattle.subelements.specs.Subelements.{noFilter, walked, walk}
 use Rattle.requests.specs.declared.Element.{Element}
-use Rattle.requests.specs.Elements.{Elements, leastBody, limitAt, timeoutAt, subelementsOf, blankElements, pastElements, hasToken, badToken, withElement, ownStep, elementStep, more}
+use Rattle.requests.specs.Elements.{elementCapacity, Elements, leastBody, limitAt, timeoutAt, subelementsOf, blankElements, pastElements, hasToken, badToken, withElement, ownStep, elementStep, more}
 use Rattle.laws.specs.Members.{All, also}
 use Rattle.request_writer.specs.Frames.{filterOctets, elementBody, elementOctets}
 use Rattle.request_writer.specs.Writer.{tokenRefusal}
@@ -113,7 +113,7 @@ module _ (s : List ℕ) (at : ℕ) (e : Element) (r : List ℕ) where
 
   -- one step over it
   step-back : (kind : Kind) (n : ℕ) (es : List Element) → Stands kind → ElementLengths e → n < 8 → badToken kind (take n es) (e .token) ≡ false
-      → elementStep s kind (atElements at n es) ≡ atElements (at + length (elementOctets kind e)) (n + 1) (set es n (readElement kind e))
+      → elementStep elementCapacity s kind (atElements at n es) ≡ atElements (at + length (elementOctets kind e)) (n + 1) (set es n (readElement kind e))
   unfolding elementStep ownStep withElement elementOctets if_then_else_
   step-back kind n es h shaped few good =
       let b : List ℕ = elementBody kind e in
@@ -176,7 +176,7 @@ module _ (kind : Kind) (s : List ℕ) (whole : Elements) where
 
   pub elements-back : (es front : List Element) (at n : ℕ) → All ElementLengths es → length front ≡ n → n + length es ≤ 8 → tokenRefusal kind front es .number ≡ 0
       → drop at s ≡ octetsFrom n es → at + length (octetsFrom n es) ≡ length s
-      → Rest (more s) (elementStep s kind) whole (length s - at) (atElements at n (Read n front))
+      → Rest (more s) (elementStep elementCapacity s kind) whole (length s - at) (atElements at n (Read n front))
       → whole ≡ atElements (length s) (n + length es) (Read (n + length es) (front ++ es))
   unfolding pieces
   elements-back [] front at n shapes e few ok h ends left =
@@ -190,7 +190,7 @@ module _ (kind : Kind) (s : List ℕ) (whole : Elements) where
       let a = accepts kind front x es ok in
       let front₁ : List Element = front ++ (x ∷ []) in
       let filled = fill-next (map (readElement kind) front) blankElements pastElements n (length-map front (readElement kind) ∙ e) (omega arith) (readElement kind x) in
-      let stepped : elementStep s kind (atElements at n (Read n front)) ≡ atElements (at + length o) (suc n) (Read (suc n) front₁)
+      let stepped : elementStep elementCapacity s kind (atElements at n (Read n front)) ≡ atElements (at + length o) (suc n) (Read (suc n) front₁)
       = step-back s at x rest kind n (Read n front) h shape (omega arith) (bad-same kind n (x .token) front _ e ∙ a .good)
       ∙ rw (add-one n, filled, map-append (readElement kind) front (x ∷ [])) in
       let m : suc n + length es ≡ n + suc (length es) = omega arith in

@@ -22,7 +22,7 @@ use Rattle.octets.specs.Refusals.{frameLength, ninthElement, noElement}
 use Rattle.octets.specs.Numbers.{requestAction}
 use Rattle.requests.specs.declared.Element.{Element}
 use Rattle.requests.specs.declared.Request.{Request}
-use Rattle.requests.specs.Elements.{walkElements}
+use Rattle.requests.specs.Elements.{elementCapacity, walkElements}
 use Rattle.requests.specs.Requests.{refusedRequest, lacksElement, requestOf, kindOf, headerCause, readRequest}
 use Rattle.request_writer.specs.declared.Written.{Written}
 use Rattle.request_writer.specs.Frames.{frameOctets}
@@ -89,10 +89,10 @@ module _ (kind : Kind) (dialog : ℕ) (es : List Element) (count : ℕ) (s : Lis
   asked-length : length (take count es) ≡ count
   asked-length = length-take count es ∙ omega (arith, a .few)
 
-  walk-back : walkElements frame kind ≡ atElements (length frame) count (readBack kind dialog es count .elements)
+  walk-back : walkElements elementCapacity frame kind ≡ atElements (length frame) count (readBack kind dialog es count .elements)
   unfolding frameOctets walkElements readBack
   walk-back =
-      elements-back kind frame (walkElements frame kind) (take count es) [] 3 0 (all-take count es shapes) refl (omega (arith, asked-length, a .few)) (a .tokens) refl (omega arith)
+      elements-back kind frame (walkElements elementCapacity frame kind) (take count es) [] 3 0 (all-take count es shapes) refl (omega (arith, asked-length, a .few)) (a .tokens) refl (omega arith)
       (start _ _ (length frame) _ _ (omega arith))
       ∙ rw (asked-length, zero-add count)
 
@@ -122,11 +122,11 @@ module _ (kind : Kind) (dialog : ℕ) (es : List Element) (count : ℕ) (s : Lis
   frame-header =
       rw (le-ltb (length frame) 3 (omega arith), le-ltb 2304 (length frame) (omega (arith, frame-fits)), eq-eqb (requestAction kind) (requestAction kind) refl, a .dialog-token)
 
-  frame-read : readRequest frame ≡ readBack kind dialog es count
+  frame-read : readRequest elementCapacity frame ≡ readBack kind dialog es count
   unfolding readRequest requestOf frameOctets readBack if_then_else_
   frame-read = rw (frame-kind, frame-header, walk-back, a .some)
 
-  read-back : readRequest (take (writeAnswer kind dialog es count (length s) .length) (writeOctets kind dialog es count s)) ≡ readBack kind dialog es count
+  read-back : readRequest elementCapacity (take (writeAnswer kind dialog es count (length s) .length) (writeOctets kind dialog es count s)) ≡ readBack kind dialog es count
   read-back = rw frame-written frame-read
 
 -- What the writer writes, the reader reads back to the same fields.
@@ -162,7 +162,7 @@ module _ (kind : Kind) (dialog : ℕ) (es : List Element) (count : ℕ) (shapes 
   answer-bounded room =
       either Bounded _ _ _ (λ _. refused-bounded _ _) (λ _. either Bounded _ _ _ (λ _. refused-bounded _ _) (λ _. frame-bounded _ elements-bounded))
 
-  pub echo-read : (s y : List ℕ) (w : Written) (r : Request) → length s ≡ 267 → outcome w y ≡ writeRequest kind dialog es count s → r ≡ readRequest (take (w .length) y)
+  pub echo-read : (s y : List ℕ) (w : Written) (r : Request) → length s ≡ 267 → outcome w y ≡ writeRequest kind dialog es count s → r ≡ readRequest elementCapacity (take (w .length) y)
       → r ≡ echoed kind dialog es count
   unfolding echoed kindOf headerCause readRequest if_then_else_
   echo-read s y w r long wrote read = rw (← long) (go (eqb (writeAnswer kind dialog es count (length s) .refusal .number) 0) refl)

@@ -17,7 +17,7 @@ use Rattle.subelements.specs.declared.Condition.{Condition}
 use Rattle.subelements.specs.Subelements.{lengthOf, bodyAt, absent, noFilter}
 use Rattle.requests.specs.declared.Element.{Element}
 use Rattle.requests.specs.declared.Request.{Request}
-use Rattle.requests.specs.Elements.{mostElements, blankElements}
+use Rattle.requests.specs.Elements.{elementCapacity, blankElements}
 use Rattle.requests.specs.Requests.{refusedRequest, readRequest}
 use Rattle.request_writer.specs.Writer.{writeAnswer, writeOctets}
 
@@ -67,9 +67,9 @@ pub record ElementLengths (e : Element) : Type 0 where
 -- for every input that the writer accepts, whatever the lent buffer s, the reader reads the octets written to the same fields
 abbrev pub RequestRoundTrip : Type 0
 RequestRoundTrip =
-    (kind : Kind) (dialog : ℕ) (es : List Element) (count : ℕ) (s : List ℕ) → length es ≡ mostElements → All ElementLengths es
+    (kind : Kind) (dialog : ℕ) (es : List Element) (count : ℕ) (s : List ℕ) → length es ≡ elementCapacity → All ElementLengths es
     → let answer = writeAnswer kind dialog es count (length s) in
-    answer .refusal .number ≡ 0 → readRequest (take (answer .length) (writeOctets kind dialog es count s)) ≡ readBack kind dialog es count
+    answer .refusal .number ≡ 0 → readRequest elementCapacity (take (answer .length) (writeOctets kind dialog es count s)) ≡ readBack kind dialog es count
 
 -- written and then read: the request, or where the writer refuses, what an empty frame reads to
 unfoldable pub echoed : Kind → ℕ → List Element → ℕ → Request

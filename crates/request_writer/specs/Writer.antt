@@ -13,7 +13,7 @@ use Rattle.octets.specs.declared.refusals.Refusal.{Refusal}
 use Rattle.octets.specs.Refusals.{refused, noRefusal, shortBuffer, dialogToken, ninthElement, elementToken, noElement}
 use Rattle.octets.specs.Numbers.{requestBuffer}
 use Rattle.requests.specs.declared.Element.{Element}
-use Rattle.requests.specs.Elements.{mostElements, badToken}
+use Rattle.requests.specs.Elements.{elementCapacity, badToken}
 use Rattle.requests.specs.Requests.{lacksElement}
 use Rattle.request_writer.specs.declared.Written.{Written}
 use Rattle.request_writer.specs.Frames.{elementsOctets, frameOctets}
@@ -40,7 +40,7 @@ unfoldable pub elementsAnswer : Kind → List Element → ℕ → Written
 elementsAnswer kind es count =
     let bad = tokenRefusal kind [] (take count es) in
     if not (eqb (bad .number) 0) then refusedWritten (bad .number) (bad .place)
-    else if ltb mostElements count then refusedWritten ninthElement (placeBehind kind es)
+    else if ltb elementCapacity count then refusedWritten ninthElement (placeBehind kind es)
     else writtenLength (placeBehind kind (take count es))
 
 -- "Diagnostic Request frame without one" (10)

@@ -50,9 +50,9 @@ subelements-listed s Diagnostic at end = walk-listed s 0 _ end
 abbrev Walked : Elements → Type 0
 Walked w = Listed (w .refusal .number)
 
-element-listed : (s : List ℕ) (kind : Kind) (w : Elements) → Walked (elementStep s kind w)
+element-listed : (most : ℕ) (s : List ℕ) (kind : Kind) (w : Elements) → Walked (elementStep most s kind w)
 unfolding elementStep ownStep withElement
-element-listed s kind w =
+element-listed most s kind w =
     either Walked _ _ _ (λ _. among-test 4 causes refl)
     (λ _. either Walked _ _ _ (λ _. first)
     (λ _. either Walked _ _ _ (λ _. among-test 9 causes refl)
@@ -60,9 +60,9 @@ element-listed s kind w =
     (λ _. either Walked _ _ _ (λ _. among-test 6 causes refl)
     (λ _. either Walked _ _ _ (λ _. subelements-listed s kind (w .at) _) (λ _. first))))))
 
-elements-listed : (s : List ℕ) (kind : Kind) → Walked (walkElements s kind)
+elements-listed : (most : ℕ) (s : List ℕ) (kind : Kind) → Walked (walkElements most s kind)
 unfolding walkElements
-elements-listed s kind = keeps Walked _ _ (λ w _. element-listed s kind w) _ (started noRefusal 3) first
+elements-listed most s kind = keeps Walked _ _ (λ w _. element-listed most s kind w) _ (started noRefusal 3) first
 
 -- ---- the frame
 
@@ -75,10 +75,10 @@ header-listed s kind =
     (λ _. either Listed _ _ _ (λ _. among-test 2 causes refl)
     (λ _. either Listed _ _ _ (λ _. among-test 3 causes refl) (λ _. first)))))
 
-pub request-listed : (s : List ℕ) → Among (readRequest s .refusal .number) (0 ∷ requestCauses)
+pub request-listed : (most : ℕ) (s : List ℕ) → Among (readRequest most s .refusal .number) (0 ∷ requestCauses)
 unfolding readRequest requestOf
-request-listed s =
+request-listed most s =
     let P : Request → Type 0 = λ (q : Request). Listed (q .refusal .number) in
     either P _ _ _ (λ _. header-listed s (kindOf s))
-    (λ _. either P _ _ _ (λ _. elements-listed s (kindOf s))
+    (λ _. either P _ _ _ (λ _. elements-listed most s (kindOf s))
     (λ _. either P _ _ _ (λ _. among-test 10 causes refl) (λ _. first)))

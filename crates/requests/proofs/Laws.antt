@@ -24,7 +24,7 @@ use Rattle.subelements.specs.Subelements.{walked, refusedWalk, past, wholeStep,
 use Rattle.subelements.proofs.Laws.{walk-at-end}
 use Rattle.requests.specs.declared.Element.{Element}
 use Rattle.requests.specs.declared.Request.{Request}
-use Rattle.requests.specs.Elements.{pastElements, leastBody, subelementsOf, elementOf, blankElements, hasToken, badToken, Elements, refusedElements, withElement, ownStep, elementStep, more, walkElements}
+use Rattle.requests.specs.Elements.{elementCapacity, pastElements, leastBody, subelementsOf, elementOf, blankElements, hasToken, badToken, Elements, refusedElements, withElement, ownStep, elementStep, more, walkElements}
 use Rattle.requests.specs.Internal.{subelementsStart}
 use Rattle.requests.specs.Requests.{refusedRequest, lacksElement, requestOf, headerCause}
 
@@ -109,7 +109,7 @@ walks at count es = record { refusal = noRefusal; at = at; count = count; elemen
 -- what holds before each turn: eight places, and what is left of the walk gives what the whole walk gives
 pub record Walking (s : List ℕ) (kind : Kind) (at count : ℕ) (es : List Element) : Type 0 where
   pub eight : length es ≡ 8
-  pub rest : Rest (more s) (elementStep s kind) (walkElements s kind) (length s - at) (walks at count es)
+  pub rest : Rest (more s) (elementStep elementCapacity s kind) (walkElements elementCapacity s kind) (length s - at) (walks at count es)
 
 pub walking-start : (s : List ℕ) (kind : Kind) → Walking s kind 3 0 blankElements
 unfolding walkElements
@@ -124,10 +124,10 @@ module _ {s : List ℕ} {kind : Kind} {at count : ℕ} {es : List Element} (i : 
   w = walks at count es
 
   abbrev Reads : Request → Type 0
-  Reads r = r ≡ requestOf kind dialog (walkElements s kind)
+  Reads r = r ≡ requestOf kind dialog (walkElements elementCapacity s kind)
 
   module _ (h : length s ≤ at) where
-    ended : requestOf kind dialog w ≡ requestOf kind dialog (walkElements s kind)
+    ended : requestOf kind dialog w ≡ requestOf kind dialog (walkElements elementCapacity s kind)
     ended = ap (requestOf kind dialog) (done (i .rest) (stop-end _ _ _ refl h))
 
     pub lacks : {r : Request} {lacking : Bool} → lacking ≡ lacksElement kind count → lacking ≡ true → r ≡ refusedRequest noElement 0 → Reads r
@@ -140,7 +140,7 @@ module _ {s : List ℕ} {kind : Kind} {at count : ℕ} {es : List Element} (i : 
     found f x = rw (← f, x) at ended
 
   module _ (h : at < length s) {end : ℕ} (e : end ≡ pieceEnd s at (length s)) where
-    refuses : {r : Request} (n p : ℕ) → (n ≡ 0 → ⊥) → r ≡ refusedRequest n p → refusedElements n p ≡ elementStep s kind w → Reads r
+    refuses : {r : Request} (n p : ℕ) → (n ≡ 0 → ⊥) → r ≡ refusedRequest n p → refusedElements n p ≡ elementStep elementCapacity s kind w → Reads r
     refuses n p z q f =
         q ∙ refused-walk kind dialog n p z ∙ ap (requestOf kind dialog) (last (i .rest) (go-on _ _ _ refl h) (omega arith) f (stop-refused n 0 (length s) z))
 
@@ -158,7 +158,7 @@ module _ {s : List ℕ} {kind : Kind} {at count : ℕ} {es : List Element} (i : 
       pub within : {n : ℕ} → n ≡ getD s (at + 1) 0 → n < 256 → end ≤ at + 257
       within m x = omega (arith, m, ends .is)
 
-      goes : (k : ℕ) (fs : List Element) → length fs ≡ 8 → walks end k fs ≡ elementStep s kind w → Walking s kind end k fs
+      goes : (k : ℕ) (fs : List Element) → length fs ≡ 8 → walks end k fs ≡ elementStep elementCapacity s kind w → Walking s kind end k fs
       goes k fs l q = record { eight = l; rest = again _ (i .rest) (go-on _ _ _ refl h) moves q }
 
       module _ {id own : ℕ} (d : id ≡ getD s at 0) (o : own ≡ requestId kind) where
@@ -167,7 +167,7 @@ module _ {s : List ℕ} {kind : Kind} {at count : ℕ} {es : List Element} (i : 
         passed-over y = goes count es (i .eight) (rw (← e, ne-eqb end 0 z, ← d, ← o, ne-eqb id own y))
 
         module _ (y : id ≡ own) where
-          owns : ownStep s kind w end ≡ elementStep s kind w
+          owns : ownStep elementCapacity s kind w end ≡ elementStep elementCapacity s kind w
           unfolding elementStep if_then_else_
           owns = rw (← e, ne-eqb end 0 z, ← d, ← o, eq-eqb id own y)
 
@@ -186,7 +186,7 @@ module _ {s : List ℕ} {kind : Kind} {at count : ℕ} {es : List Element} (i : 
               refused-token x q = refuses 6 _ (λ x. omega arith) q (rw (← owns, lt-leb 8 count k, ← m, ← b, le-ltb n least l, ← g, ← f, x))
 
               module _ (x : bad ≡ false) {subs : Subelements} (u : subs ≡ subelementsOf s kind at end) where
-                with-subelements : withElement s kind w end subs ≡ elementStep s kind w
+                with-subelements : withElement s kind w end subs ≡ elementStep elementCapacity s kind w
                 unfolding ownStep if_then_else_
                 with-subelements = rw (← owns, lt-leb 8 count k, ← m, ← b, le-ltb n least l, ← g, ← f, x, ← u)
 

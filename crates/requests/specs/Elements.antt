@@ -51,8 +51,9 @@ elementOf s kind at subs = record {
 
 -- ---- the walk
 
-abbrev pub mostElements : ℕ
-mostElements = 8
+-- "Ninth request element": a frame has at most eight
+abbrev pub elementCapacity : ℕ
+elementCapacity = 8
 
 abbrev pub blankElement : Element
 blankElement = record { token = 0; ty = 0; limit = 0; subs = 0; timeout = 0; filter = noFilter }
@@ -103,24 +104,24 @@ withElement s kind w end subs =
     if not (eqb (subs .refusal .number) 0) then refusedElements (subs .refusal .number) (subs .refusal .place)
     else record { refusal = noRefusal; at = end; count = w .count + 1; elements = set (w .elements) (w .count) (elementOf s kind (w .at) subs) }
 
--- a whole element of the frame's own ID, which ends at end: "9, 5, 6, then its subelements"
-unfoldable pub ownStep : List ℕ → Kind → Elements → ℕ → Elements
-ownStep s kind w end =
-    if leb mostElements (w .count) then refusedElements ninthElement (w .at)
+-- a whole element of the frame's own ID, which ends at end: "9, 5, 6, then its subelements"; of at most so many elements
+unfoldable pub ownStep : ℕ → List ℕ → Kind → Elements → ℕ → Elements
+ownStep most s kind w end =
+    if leb most (w .count) then refusedElements ninthElement (w .at)
     else if ltb (getD s (w .at + 1) 0) (leastBody kind) then refusedElements elementLength (w .at)
     else if badToken kind (take (w .count) (w .elements)) (getD s (w .at + 2) 0) then refusedElements elementToken (w .at)
     else withElement s kind w end (subelementsOf s kind (w .at) end)
 
 -- the element at w .at: "Element header or body passes the end" (4); "In each frame only its own element ID counts"
-unfoldable pub elementStep : List ℕ → Kind → Elements → Elements
-elementStep s kind w =
+unfoldable pub elementStep : ℕ → List ℕ → Kind → Elements → Elements
+elementStep most s kind w =
     if eqb (pieceEnd s (w .at) (length s)) 0 then refusedElements elementEdge (w .at)
     else if not (eqb (getD s (w .at) 0) (requestId kind)) then passed w (pieceEnd s (w .at) (length s))
-    else ownStep s kind w (pieceEnd s (w .at) (length s))
+    else ownStep most s kind w (pieceEnd s (w .at) (length s))
 
 abbrev pub more : List ℕ → Elements → Bool
 more s w = eqb (w .refusal .number) 0 && ltb (w .at) (length s)
 
 -- "then elements from the front": those behind the three octets of the header; the first refusal stops
-unfoldable pub walkElements : List ℕ → Kind → Elements
-walkElements s kind = repeatWhile (length s) (more s) (elementStep s kind) (started noRefusal 3)
+unfoldable pub walkElements : ℕ → List ℕ → Kind → Elements
+walkElements most s kind = repeatWhile (length s) (more s) (elementStep most s kind) (started noRefusal 3)

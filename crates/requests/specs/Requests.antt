@@ -48,8 +48,8 @@ headerCause s kind =
     else if eqb (getD s 2 0) 0 then dialogToken
     else 0
 
--- "1, 2, 3, then elements from the front, .. and 10 at the end"
-unfoldable pub readRequest : List ℕ → Request
-readRequest s =
+-- "1, 2, 3, then elements from the front, .. and 10 at the end", of at most so many elements
+unfoldable pub readRequest : ℕ → List ℕ → Request
+readRequest most s =
     if not (eqb (headerCause s (kindOf s)) 0) then refusedRequest (headerCause s (kindOf s)) 0
-    else requestOf (kindOf s) (getD s 2 0) (walkElements s (kindOf s))
+    else requestOf (kindOf s) (getD s 2 0) (walkElements most s (kindOf s))

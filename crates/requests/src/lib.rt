@@ -14,7 +14,7 @@ use subelements::walk_request;
 ghost use mathlib.Core.Path.{_≡_};
 ghost use Prim.Native.Nat.{_+_, _≤_, _<_};
 ghost use lib.ListN.{length, getD, take};
-ghost use Rattle.requests.specs.Elements.{leastBody, limitAt, timeoutAt, subelementsOf, elementOf, blankElements, hasToken, zeroToken, badToken, walkElements};
+ghost use Rattle.requests.specs.Elements.{elementCapacity, leastBody, limitAt, timeoutAt, subelementsOf, elementOf, blankElements, hasToken, zeroToken, badToken, walkElements};
 ghost use Rattle.requests.specs.Internal.{subelementsStart};
 ghost use Rattle.requests.specs.Requests.{refusedRequest, lacksElement, requestOf, kindOf, headerCause, readRequest};
 
@@ -200,7 +200,7 @@ pub fn lacks_element(kind: Kind, count: usize) -> bool
 // is returned: the compiler then makes them where the caller wants them.
 fn read_elements(s: &[u8], kind: Kind) -> Request
     requires { ⌜ length (now s) ≤ 2304 ⌝ }
-    ensures { λ r. ⌜ r ≡ requestOf kind (getD (now (s .entry)) 2 0) (walkElements (now (s .entry)) kind) ⌝ }
+    ensures { λ r. ⌜ r ≡ requestOf kind (getD (now (s .entry)) 2 0) (walkElements elementCapacity (now (s .entry)) kind) ⌝ }
 {
     let mut elements = blank_elements();
     let mut n: usize = 0;
@@ -278,7 +278,7 @@ fn header_cause(s: &[u8], kind: Kind) -> u8
 
 // Reads one request frame.
 pub fn read_request(s: &[u8]) -> Request
-    ensures { λ r. ⌜ r ≡ readRequest (now (s .entry)) ⌝ }
+    ensures { λ r. ⌜ r ≡ readRequest elementCapacity (now (s .entry)) ⌝ }
 {
     let kind = kind_of(s);
     let cause = header_cause(s, kind);
