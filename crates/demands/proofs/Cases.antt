@@ -20,7 +20,7 @@ use Rattle.events.specs.Choice.{firstOf, nextPlace}
 use Rattle.events.specs.Conditions.{asked, transitionMeets, meetsAt, meets}
 use Rattle.identities.specs.Identity.{stands, passRow, goodFrom, goodIdentity}
 use Rattle.reports.specs.Reports.{reportElement, eventElement}
-use Rattle.model.specs.Model.{Address, Station, Call, logging, frame, report, written}
+use Rattle.model.specs.Model.{standard, Address, Station, Call, logging, frame, report, written}
 use Rattle.model.specs.Requesters.{holds, repeated, hasGroup, badList, newRequester, find, put}
 use Rattle.model.specs.Dialogs.{replace}
 use Rattle.model.specs.Fill.{fillWith, fill, nextFrame}
@@ -55,10 +55,10 @@ zeros zero = []
 zeros (suc n) = 0 ∷ zeros n
 
 abbrev gate : Station
-gate = run (setup identity (console ∷ []) .station) calls
+gate = run standard (setup standard identity (console ∷ []) .station) calls
 
 abbrev after : Kind → ℕ → Type 0
-after kind n = step gate (report 13 console kind (zeros 260)) .answer ≡ written n
+after kind n = step standard gate (report 13 console kind (zeros 260)) .answer ≡ written n
 
 -- an event of 35 octets, and the identity behind five
 answered : after Event 38 × after Diagnostic 25
@@ -78,8 +78,8 @@ calls-formed : WellFormed calls
 unfolding calls
 calls-formed x m = one-of m (is-slow x) (λ m₁. one-of m₁ (λ e. never cc) (λ m₂. one-of m₂ (λ e. never cc) among-none))
 
-event-read-back : RoundTrip identity calls (tick 13 gate) console Event 38 (step gate (report 13 console Event (zeros 260)) .buffer)
-event-read-back = station-round-trip identity (console ∷ []) calls calls-formed 13 console Event (zeros 260) 38 (answered .0)
+event-read-back : RoundTrip identity calls (tick 13 gate) console Event 38 (step standard gate (report 13 console Event (zeros 260)) .buffer)
+event-read-back = station-round-trip standard identity (console ∷ []) calls calls-formed 13 console Event (zeros 260) 38 (answered .0)
 
-identity-read-back : RoundTrip identity calls (tick 13 gate) console Diagnostic 25 (step gate (report 13 console Diagnostic (zeros 260)) .buffer)
-identity-read-back = station-round-trip identity (console ∷ []) calls calls-formed 13 console Diagnostic (zeros 260) 25 (answered .1)
+identity-read-back : RoundTrip identity calls (tick 13 gate) console Diagnostic 25 (step standard gate (report 13 console Diagnostic (zeros 260)) .buffer)
+identity-read-back = station-round-trip standard identity (console ∷ []) calls calls-formed 13 console Diagnostic (zeros 260) 25 (answered .1)

@@ -9,7 +9,7 @@ use Rattle.laws.proofs.Members.{among-none}
 use Rattle.octets.specs.declared.numbers.Kind.{Kind}
 use Rattle.octets.specs.declared.refusals.Refusal.{Refusal}
 use Rattle.events.specs.Loggings.{Logging, TransitionLengths}
-use Rattle.model.specs.Model.{Address, Call, clock, report, Result, written, refused}
+use Rattle.model.specs.Model.{standard, Address, Call, clock, report, Result, written, refused}
 use Rattle.model.specs.Model.{Station as Model·Station}
 use Rattle.model.specs.Stations.{setup, tick, readingOf, step}
 use Rattle.model.specs.Refusals.{lentBuffer}
@@ -29,14 +29,14 @@ use Rattle.demands.proofs.StationRoundTrip.{station-round-trip}
 -- ---- what an allowed call gives is what the model gives
 
 module _ {g : Station} {m : Made} (a : Allowed g m) where
-  station-is : view (m .outcome .station) ≡ step (view g) (m .call) .station
+  station-is : view (m .outcome .station) ≡ step standard (view g) (m .call) .station
   unfolding viewOutcome
   station-is = ap (λ (x : Result). x .station) (a .contract)
 
-  answer-is : viewOutcome (m .outcome) (m .buffer) .answer ≡ step (view g) (m .call) .answer
+  answer-is : viewOutcome (m .outcome) (m .buffer) .answer ≡ step standard (view g) (m .call) .answer
   answer-is = ap (λ (x : Result). x .answer) (a .contract)
 
-  buffer-is : m .buffer ≡ step (view g) (m .call) .buffer
+  buffer-is : m .buffer ≡ step standard (view g) (m .call) .buffer
   unfolding viewOutcome
   buffer-is = ap (λ (x : Result). x .buffer) (a .contract)
 
@@ -45,26 +45,26 @@ module _ {g : Station} {m : Made} (a : Allowed g m) where
 pub total : Total
 unfolding viewOutcome
 total g m r a e =
-    let p = refused-call (view g) (m .call) r (sym (answer-is a) ∙ e) in
+    let p = refused-call standard (view g) (m .call) r (sym (answer-is a) ∙ e) in
     record {
       refusal = p .refusal;
-      station = λ k c b. station-is a ∙ p .station ∙ ap (λ (d : Call). step (view g) d .station) (sym c) ∙ sym (station-is b);
+      station = λ k c b. station-is a ∙ p .station ∙ ap (λ (d : Call). step standard (view g) d .station) (sym c) ∙ sym (station-is b);
       buffer = buffer-is a ∙ p .buffer;
     }
 
 pub total-setup : TotalSetup
 unfolding viewOutcome
-total-setup i l o r s e =
-    let p = refused-setup i l r (sym (ap (λ (x : Result). x .answer) s) ∙ e) in
+total-setup standard i l o r s e =
+    let p = refused-setup standard i l r (sym (ap (λ (x : Result). x .answer) s) ∙ e) in
     record { refusal = p .refusal; station = ap (λ (x : Result). x .station) s ∙ p .station }
 
 -- ---- chains
 
 -- the station that a chain leads to is the model's after the same calls
-chain-run : {g h : Station} {ms : List Made} → Chain g ms h → view h ≡ run (view g) (map callOf ms)
+chain-run : {g h : Station} {ms : List Made} → Chain g ms h → view h ≡ run standard (view g) (map callOf ms)
 unfolding run
 chain-run none-made = refl
-chain-run (made {ms = ms} a c) = chain-run c ∙ ap (λ (x : Model·Station). run x (map callOf ms)) (station-is a)
+chain-run (made {ms = ms} a c) = chain-run c ∙ ap (λ (x : Model·Station). run standard x (map callOf ms)) (station-is a)
 
 handed-in : (c : Call) (x : Logging) → loggingCall x ≡ c → HandedIn c → TransitionLengths (x .transition)
 handed-in c x e h = rw (← e) at h
@@ -82,24 +82,24 @@ chain-formed (made a c) = λ x m. by x m (a .handed-in) (chain-formed c)
 pub exact : Exact
 unfolding viewOutcome
 exact i l o ms g s c m t a kind b n allowed is e =
-    let start : view (o .station) ≡ setup i l .station = ap (λ (x : Result). x .station) s in
-    let here : view g ≡ run (setup i l .station) (map callOf ms) = chain-run c ∙ ap (λ (x : Model·Station). run x (map callOf ms)) start in
-    let there : (d : Call) → d ≡ report t a kind b → step (view g) d ≡ step (run (setup i l .station) (map callOf ms)) (report t a kind b) = λ d q. rw (q, here) in
+    let start : view (o .station) ≡ setup standard i l .station = ap (λ (x : Result). x .station) s in
+    let here : view g ≡ run standard (setup standard i l .station) (map callOf ms) = chain-run c ∙ ap (λ (x : Model·Station). run standard x (map callOf ms)) start in
+    let there : (d : Call) → d ≡ report t a kind b → step standard (view g) d ≡ step standard (run standard (setup standard i l .station) (map callOf ms)) (report t a kind b) = λ d q. rw (q, here) in
     let answer = sym (ap (λ (x : Result). x .answer) (there (m .call) is)) ∙ sym (answer-is allowed) ∙ e in
-    let trip = station-round-trip i l (map callOf ms) (chain-formed c) t a kind b n answer in
+    let trip = station-round-trip standard i l (map callOf ms) (chain-formed c) t a kind b n answer in
     rw (here, buffer-is allowed, there (m .call) is) trip
 
 -- ---- demand 3
 
-chain-answers : {g h : Station} {ms : List Made} → Chain g ms h → map replied ms ≡ answers (view g) (map callOf ms)
+chain-answers : {g h : Station} {ms : List Made} → Chain g ms h → map replied ms ≡ answers standard (view g) (map callOf ms)
 unfolding answers reply viewOutcome
 chain-answers none-made = refl
 chain-answers (made {g = g} {m = m} {ms = ms} a c) =
-    let here : replied m ≡ toSender (sender (m .call)) (λ s. reply (view g) (m .call)) = rw (answer-is a, buffer-is a) in
-    let there : map replied ms ≡ answers (step (view g) (m .call) .station) (map callOf ms) = chain-answers c ∙ ap (λ (x : Model·Station). answers x (map callOf ms)) (station-is a) in
+    let here : replied m ≡ toSender (sender (m .call)) (λ s. reply standard (view g) (m .call)) = rw (answer-is a, buffer-is a) in
+    let there : map replied ms ≡ answers standard (step standard (view g) (m .call) .station) (map callOf ms) = chain-answers c ∙ ap (λ (x : Model·Station). answers standard x (map callOf ms)) (station-is a) in
     rw (here, there)
 
 pub independent-requesters : IndependentRequesters
 unfolding viewOutcome
 independent-requesters i l o ms g s c =
-    chain-answers c ∙ ap (λ (x : Model·Station). answers x (map callOf ms)) (ap (λ (x : Result). x .station) s) ∙ independent i l (map callOf ms)
+    chain-answers c ∙ ap (λ (x : Model·Station). answers standard x (map callOf ms)) (ap (λ (x : Result). x .station) s) ∙ independent standard i l (map callOf ms)

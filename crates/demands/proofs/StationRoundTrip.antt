@@ -125,6 +125,6 @@ module _ (i : List ℕ) (cs : List Call) (whole : WellFormed cs) (g : Station) (
 -- What a report call writes is read back to what was logged and set up.
 pub station-round-trip : StationRoundTrip
 unfolding step act readingOf reportCall serveListed
-station-round-trip i l cs whole t a kind b n e =
-    let g : Station = tick t (run (setup i l .station) cs) in
-    found-read-back i cs whole g (sound-tick i cs t _ (always-sound .after i l cs)) a b n kind (find a (g .requesters)) refl e
+station-round-trip most i l cs whole t a kind b n e =
+    let g : Station = tick t (run most (setup most i l .station) cs) in
+    found-read-back i cs whole g (sound-tick most i cs t _ (always-sound .after most i l cs)) a b n kind (find a (g .requesters)) refl e

@@ -7,7 +7,7 @@ use mathlib.Core.List.{List, [], map}
 use mathlib.Core.Option.{Option}
 use Rattle.octets.specs.declared.numbers.Kind.{Kind}
 use Rattle.octets.specs.declared.refusals.Refusal.{Refusal}
-use Rattle.model.specs.Model.{Address, Call, clock, report, written, refused}
+use Rattle.model.specs.Model.{standard, Address, Call, clock, report, written, refused}
 use Rattle.model.specs.Stations.{setup, tick, readingOf, nobody}
 use Rattle.model.specs.Refusals.{lentBuffer, causesOf, setupCauses, RefusedBy}
 use Rattle.model.specs.Runs.{sender, Reply, toSender}
@@ -59,4 +59,4 @@ replied m = toSender (sender (m .call)) (λ s. record { answer = viewAnswer (m .
 abbrev pub IndependentRequesters : Type 0
 IndependentRequesters =
     (i : List ℕ) (l : List Address) (o : Outcome) (ms : List Made) (g : Station) → SetUp i l o → Chain (o .station) ms g
-    → map replied ms ≡ freshAnswers i (from l) (setup i l .station) (map callOf ms)
+    → map replied ms ≡ freshAnswers standard i (from l) (setup standard i l .station) (map callOf ms)

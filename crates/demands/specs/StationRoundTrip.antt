@@ -16,7 +16,7 @@ use Rattle.octets.specs.Elements.{subelements}
 use Rattle.events.specs.declared.Entry.{Entry}
 use Rattle.events.specs.Loggings.{Logging, entryFor, TransitionLengths}
 use Rattle.model.specs.declared.Diagnostic.{Diagnostic as DiagnosticElement}
-use Rattle.model.specs.Model.{Address, EventRequest, DiagnosticRequest, Requester, Station, Call, report, written}
+use Rattle.model.specs.Model.{Capacities, Address, EventRequest, DiagnosticRequest, Requester, Station, Call, report, written}
 use Rattle.model.specs.Requesters.{find}
 use Rattle.model.specs.Fill.{Piece}
 use Rattle.model.specs.Events.{nextEvent}
@@ -67,9 +67,9 @@ pub record RoundTrip (i : List ℕ) (cs : List Call) (g : Station) (a : Address)
 abbrev pub WellFormed : List Call → Type 0
 WellFormed cs = (x : Logging) → Among (loggingCall x) cs → TransitionLengths (x .transition)
 
--- for every identity and list that setup was given, every list of calls, and every report call behind it that is answered with a length
+-- for all capacities, every identity and list that setup was given, every list of calls, and every report call behind it that is answered with a length
 abbrev pub StationRoundTrip : Type 0
 StationRoundTrip =
-    (i : List ℕ) (l : List Address) (cs : List Call) → WellFormed cs → (t : ℕ) (a : Address) (kind : Kind) (b : List ℕ) (n : ℕ)
-    → let g = run (setup i l .station) cs in
-    step g (report t a kind b) .answer ≡ written n → RoundTrip i cs (tick t g) a kind n (step g (report t a kind b) .buffer)
+    (most : Capacities) (i : List ℕ) (l : List Address) (cs : List Call) → WellFormed cs → (t : ℕ) (a : Address) (kind : Kind) (b : List ℕ) (n : ℕ)
+    → let g = run most (setup most i l .station) cs in
+    step most g (report t a kind b) .answer ≡ written n → RoundTrip i cs (tick t g) a kind n (step most g (report t a kind b) .buffer)

@@ -1,9 +1,9 @@
 // Setup, and the calls on a station.
-use crate::Outcome;
 use crate::Reply;
 use events::Transition;
 use octets::Kind;
 use requesters::Answer;
+use station::Outcome;
 use station::Station;
 use units::Milliseconds;
 ghost use mathlib.Core.Path.{_≡_};

@@ -3,8 +3,8 @@ use octets::Kind;
 use octets::Refusal;
 use octets::put;
 use octets::put_decimal;
+use requests::ELEMENT_CAPACITY;
 use requests::Element;
-use requests::MOST_ELEMENTS;
 use requests::Request;
 use requests::read_request;
 ghost use mathlib.Core.Path.{_≡_};
@@ -54,7 +54,7 @@ fn put_lines(buf: &mut [u8], from: usize, kind: Kind, es: [Element; 8], count: u
     let mut at = from;
     let mut i: usize = 0;
     while i < count {
-        if MOST_ELEMENTS <= i {
+        if ELEMENT_CAPACITY <= i {
             return at;
         }
         let e = es[i];

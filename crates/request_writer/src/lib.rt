@@ -7,8 +7,8 @@ use octets::high;
 use octets::low;
 use octets::numbers;
 use octets::put;
+use requests::ELEMENT_CAPACITY;
 use requests::Element;
-use requests::MOST_ELEMENTS;
 use requests::Request;
 use requests::bad_token;
 use requests::lacks_element;
@@ -133,7 +133,7 @@ fn put_elements(buf: &mut [u8], kind: Kind, es: [Element; 8], count: usize) -> W
     let mut at: usize = 0;
     let mut i: usize = 0;
     while i < count {
-        if MOST_ELEMENTS <= i {
+        if ELEMENT_CAPACITY <= i {
             return refused(causes::NINTH_ELEMENT, 3 + at);
         }
         let e = es[i];

@@ -1,5 +1,2 @@
-pub mod FillLaws
-pub mod EventLaws
-pub mod ReportLaws
-pub mod ServeLaws
-pub mod SearchLaws
+pub mod DialogLaws
+pub mod DiagnosticLaws

@@ -1,2 +1,3 @@
 pub mod Views
+pub mod Blank
 pub mod Internal

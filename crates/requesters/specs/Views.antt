@@ -13,7 +13,7 @@ use Rattle.requesters.specs.declared.Served.{Served as Code·Served}
 use Rattle.requesters.specs.declared.EventRequest.{EventRequest as Code·EventRequest}
 use Rattle.requesters.specs.declared.DiagnosticRequest.{DiagnosticRequest as Code·DiagnosticRequest}
 use Rattle.requesters.specs.declared.Requester.{Requester as Code·Requester}
-use Rattle.requesters.specs.declared.giving.Progress.{Progress}
+use Rattle.requesters.specs.declared.Progress.{Progress}
 use Rattle.requesters.specs.declared.Answer.{Answer as Code·Answer}
 use Rattle.requesters.specs.declared.Answer.the-variants.{Accepted, Nothing, Length, Refused}
 

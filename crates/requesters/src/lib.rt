@@ -1,19 +1,20 @@
-// One requester (document 01: a console): what is left of its requests, and what each call makes of
-// them.
-mod answering;
-mod diagnostics;
-mod giving;
-mod reporting;
+// One requester (document 01: a console), and what frames, the clock and the log make of its requests.
+mod diagnostic_requests;
+mod dialogs;
+mod event_requests;
 
-pub use answering::Answered;
-pub use diagnostics::diagnostic_treatment;
-pub use giving::Filled;
-pub use giving::Next;
-pub use giving::Progress;
-pub use giving::Turn;
+pub use diagnostic_requests::blank_diagnostics;
+pub use diagnostic_requests::diagnostic_treatment;
+pub use diagnostic_requests::new_diagnostics;
+pub use diagnostic_requests::on_time;
+pub use diagnostic_requests::renews_diagnostics;
+pub use event_requests::blank_events;
+pub use event_requests::lower;
+pub use event_requests::new_events;
+pub use event_requests::renews_events;
 use model::Diagnostic;
 use octets::Refusal;
-pub use reporting::give_report;
+use requests::ELEMENT_CAPACITY;
 use requests::Element;
 use units::Milliseconds;
 
@@ -29,7 +30,15 @@ pub struct EventRequest {
     pub start: usize,
     pub first: usize,
     pub count: usize,
-    pub elements: [Element; 8],
+    pub elements: [Element; ELEMENT_CAPACITY],
+}
+
+// How far an event request has come: its first element left, how many events that one gave, and
+// where in the log the search for its next one starts.
+pub struct Progress {
+    pub first: usize,
+    pub given: u8,
+    pub start: usize,
 }
 
 // A diagnostic request, where outstanding, and the reading of its acceptance. Its elements left are
@@ -41,7 +50,7 @@ pub struct DiagnosticRequest {
     pub accepted: Milliseconds,
     pub first: usize,
     pub count: usize,
-    pub elements: [Diagnostic; 8],
+    pub elements: [Diagnostic; ELEMENT_CAPACITY],
 }
 
 // A requester, with at most one request of each kind.

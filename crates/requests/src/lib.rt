@@ -19,7 +19,7 @@ ghost use Rattle.requests.specs.Internal.{subelementsStart};
 ghost use Rattle.requests.specs.Requests.{refusedRequest, lacksElement, requestOf, kindOf, headerCause, readRequest};
 
 // The most elements that a request has.
-pub const MOST_ELEMENTS: usize = 8;
+pub const ELEMENT_CAPACITY: usize = 8;
 
 // One request element: its token and type (ty), the response limit of an event, the timeout in
 // seconds of a diagnostic, the number of subelements walked, and the conditions of event type 0.
@@ -42,7 +42,7 @@ pub struct Request {
     pub kind: Kind,
     pub dialog: u8,
     pub count: usize,
-    pub elements: [Element; 8],
+    pub elements: [Element; ELEMENT_CAPACITY],
 }
 
 // The octets of a body before its subelements.
@@ -121,12 +121,12 @@ fn element_of(s: &[u8], kind: Kind, at: usize, subs: Subelements) -> Element
 }
 
 // Has one of the first n elements the token?
-fn has_token(es: [Element; 8], n: usize, token: u8) -> bool
+fn has_token(es: [Element; ELEMENT_CAPACITY], n: usize, token: u8) -> bool
     ensures { λ r. ⌜ r ≡ hasToken (take n es) token ⌝ }
 {
     let mut i: usize = 0;
     while i < n {
-        if MOST_ELEMENTS <= i {
+        if ELEMENT_CAPACITY <= i {
             return false;
         }
         let e = es[i];
@@ -148,7 +148,7 @@ fn zero_token(kind: Kind, token: u8) -> bool
 }
 
 // Is a token refused behind the first n elements?
-pub fn bad_token(kind: Kind, es: [Element; 8], n: usize, token: u8) -> bool
+pub fn bad_token(kind: Kind, es: [Element; ELEMENT_CAPACITY], n: usize, token: u8) -> bool
     ensures { λ r. ⌜ r ≡ badToken kind (take n es) token ⌝ }
 {
     if zero_token(kind, token) {
@@ -158,7 +158,7 @@ pub fn bad_token(kind: Kind, es: [Element; 8], n: usize, token: u8) -> bool
 }
 
 // What stands where a request has no element.
-fn blank_elements() -> [Element; 8]
+fn blank_elements() -> [Element; ELEMENT_CAPACITY]
     ensures { λ r. ⌜ r ≡ blankElements ⌝ }
 {
     [Element {
@@ -171,7 +171,7 @@ fn blank_elements() -> [Element; 8]
             present: false,
             octets: [0; 6],
         }; 5],
-    }; 8]
+    }; ELEMENT_CAPACITY]
 }
 
 fn refused(number: u8, place: usize) -> Request
@@ -215,7 +215,7 @@ fn read_elements(s: &[u8], kind: Kind) -> Request
         if octet(s, at) != kind.request_id() {
             continue;
         }
-        if MOST_ELEMENTS <= n {
+        if ELEMENT_CAPACITY <= n {
             return refused(causes::NINTH_ELEMENT, at);
         }
         if size(s, at + 1) < least_body(kind) {

@@ -1,2 +1,3 @@
+pub mod RequesterLaws
 pub mod StationLaws
 pub mod CallLaws

@@ -16,11 +16,11 @@ use Rattle.laws.proofs.Choice.{either}
 use Rattle.octets.specs.Refusals.{requesterList, identity}
 use Rattle.events.specs.declared.Entry.{Entry}
 use Rattle.events.specs.declared.Log.{Log}
-use Rattle.model.specs.Model.{Address, Station, Result, accepted}
+use Rattle.model.specs.Model.{standard, requesterCapacity, Address, Station, Result, accepted}
 use Rattle.identities.specs.Identity.{stands, passRow, goodFrom, goodIdentity}
 use Rattle.model.specs.Requesters.{badList}
 use Rattle.requesters.specs.Views.{viewAnswer, viewIdentity}
-use Rattle.slots.proofs.RequesterLaws.{named-views}
+use Rattle.station.proofs.RequesterLaws.{named-views}
 use Rattle.station.specs.declared.Station.{Station as Code·Station}
 use Rattle.station.specs.declared.Outcome.{Outcome}
 use Rattle.station.specs.Memory.{namedStation, setupStation, renamedStation, Leaves}
@@ -30,10 +30,10 @@ use Rattle.model.specs.Stations.{result, refusedFor, nobody, newStation, setup,
 use Rattle.events.specs.Log.{logged, blankLog}
 
 -- a list that is not refused has at most four addresses
-pub good-length : (l : List Address) → badList l ≡ false → length l ≤ 4
+pub good-length : (l : List Address) → badList requesterCapacity l ≡ false → length l ≤ requesterCapacity
 unfolding badList
 good-length l =
-    let P : Bool → Type 0 = λ (b : Bool). b ≡ false → length l ≤ 4 in
+    let P : Bool → Type 0 = λ (b : Bool). b ≡ false → length l ≤ requesterCapacity in
     either P _ _ _ (λ _ e. absurd (let z : _≡_ {A = ℕ} 0 1 = cc in omega arith))
     (λ _. either P _ _ _ (λ _ e. absurd (let z : _≡_ {A = ℕ} 0 1 = cc in omega arith)) (λ h _. ltb-false 4 (length l) h))
 
@@ -59,11 +59,11 @@ unfolding viewIdentity if_then_else_
 view-some n o e = rw (ne-eqb n 0 e)
 
 -- a station that names the requesters of a list
-view-named : (n : ℕ) (o : List ℕ) (log : Log) (l : List Address) → (n ≡ 0 → ⊥) → length l ≤ 4 → view (namedStation o n log l) ≡ newStation (take n o) (logged log) l
+view-named : (n : ℕ) (o : List ℕ) (log : Log) (l : List Address) → (n ≡ 0 → ⊥) → length l ≤ requesterCapacity → view (namedStation o n log l) ≡ newStation (take n o) (logged log) l
 unfolding view
 view-named n o log l h few = rw (view-some n o h, named-views l few)
 
-pub view-setup : (i : List ℕ) (l : List Address) → 0 < length i → length l ≤ 4 → view (setupStation i l) ≡ newStation i [] l
+pub view-setup : (i : List ℕ) (l : List Address) → 0 < length i → length l ≤ requesterCapacity → view (setupStation i l) ≡ newStation i [] l
 unfolding logged
 view-setup i l h few =
     view-named (length i) _ blankLog l (λ z. omega arith) few ∙ ap (λ (o : List ℕ). newStation o [] l) (take-at i _ (length i) refl)
@@ -90,40 +90,40 @@ module _ (o : Outcome) where
 -- ---- the ladders, by the tests that lead to each step
 
 module _ (log : List Entry) (l : List Address) (g : Station) where
-  rename-bad : badList l ≡ true → result g (refusedFor requesterList) [] ≡ rename log l g
+  rename-bad : badList requesterCapacity l ≡ true → result g (refusedFor requesterList) [] ≡ rename standard log l g
   unfolding rename if_then_else_
   rename-bad e = rw e
 
-  rename-none : badList l ≡ false → g .identity ≡ none → result g (refusedFor identity) [] ≡ rename log l g
+  rename-none : badList requesterCapacity l ≡ false → g .identity ≡ none → result g (refusedFor identity) [] ≡ rename standard log l g
   unfolding rename renameWith if_then_else_
   rename-none e f = rw (e, f)
 
-  rename-some : (i : List ℕ) → badList l ≡ false → g .identity ≡ some i → result (newStation i log l) accepted [] ≡ rename log l g
+  rename-some : (i : List ℕ) → badList requesterCapacity l ≡ false → g .identity ≡ some i → result (newStation i log l) accepted [] ≡ rename standard log l g
   unfolding rename renameWith if_then_else_
   rename-some i e f = rw (e, f)
 
   module _ (n : ℕ) (o : List ℕ) (is : g .identity ≡ viewIdentity n o) where
-    pub rename-refused : (renameCause n l ≡ 0 → ⊥) → result g (refusedFor (renameCause n l)) [] ≡ rename log l g
+    pub rename-refused : (renameCause n l ≡ 0 → ⊥) → result g (refusedFor (renameCause n l)) [] ≡ rename standard log l g
     unfolding renameCause if_then_else_
-    rename-refused h = go (badList l) refl (eqb n 0) refl
+    rename-refused h = go (badList requesterCapacity l) refl (eqb n 0) refl
       where
-        go : (b : Bool) → badList l ≡ b → (z : Bool) → eqb n 0 ≡ z → result g (refusedFor (renameCause n l)) [] ≡ rename log l g
+        go : (b : Bool) → badList requesterCapacity l ≡ b → (z : Bool) → eqb n 0 ≡ z → result g (refusedFor (renameCause n l)) [] ≡ rename standard log l g
         go true e z f = rw e (rename-bad e)
         go false e true f = rw (e, f) (rename-none e (is ∙ view-none n o (eqb-true n 0 f)))
         go false e false f = absurd (h (rw (e, f)))
 
 -- a list that a station with an identity takes
-rename-takes : (n : ℕ) (l : List Address) → renameCause n l ≡ 0 → (badList l ≡ false) × (n ≡ 0 → ⊥)
+rename-takes : (n : ℕ) (l : List Address) → renameCause n l ≡ 0 → (badList requesterCapacity l ≡ false) × (n ≡ 0 → ⊥)
 unfolding renameCause if_then_else_
-rename-takes n l = go (badList l) refl (eqb n 0) refl
+rename-takes n l = go (badList requesterCapacity l) refl (eqb n 0) refl
   where
-    go : (b : Bool) → badList l ≡ b → (z : Bool) → eqb n 0 ≡ z → (if b then requesterList else if z then identity else 0) ≡ 0 → (badList l ≡ false) × (n ≡ 0 → ⊥)
+    go : (b : Bool) → badList requesterCapacity l ≡ b → (z : Bool) → eqb n 0 ≡ z → (if b then requesterList else if z then identity else 0) ≡ 0 → (badList requesterCapacity l ≡ false) × (n ≡ 0 → ⊥)
     go true e z f h = absurd (omega arith)
     go false e true f h = absurd (omega arith)
     go false e false f h = (e, eqb-false n 0 f)
 
 pub rename-taken : (o : Outcome) (g : Code·Station) (v : Station) (log : Log) (l : List Address) → v .identity ≡ viewIdentity (g .length) (g .identity)
-    → renameCause (g .length) l ≡ 0 → o ≡ acceptedOutcome (renamedStation g log l) → viewOutcome o [] ≡ rename (logged log) l v
+    → renameCause (g .length) l ≡ 0 → o ≡ acceptedOutcome (renamedStation g log l) → viewOutcome o [] ≡ rename standard (logged log) l v
 rename-taken o g v log l is free e =
     let takes = rename-takes (g .length) l free in
     accepted-view o _ e
@@ -131,14 +131,14 @@ rename-taken o g v log l is free e =
     ∙ rename-some (logged log) l v _ (takes .0) (is ∙ view-some (g .length) (g .identity) (takes .1))
 
 module _ (i : List ℕ) (l : List Address) where
-  pub setup-bad-list : badList l ≡ true → result nobody (refusedFor requesterList) [] ≡ setup i l
+  pub setup-bad-list : badList requesterCapacity l ≡ true → result nobody (refusedFor requesterList) [] ≡ setup standard i l
   unfolding setup if_then_else_
   setup-bad-list e = rw e
 
-  pub setup-bad-identity : badList l ≡ false → goodIdentity i ≡ false → result nobody (refusedFor identity) [] ≡ setup i l
+  pub setup-bad-identity : badList requesterCapacity l ≡ false → goodIdentity i ≡ false → result nobody (refusedFor identity) [] ≡ setup standard i l
   unfolding setup if_then_else_
   setup-bad-identity e f = rw (e, f)
 
-  pub setup-good : badList l ≡ false → goodIdentity i ≡ true → result (newStation i [] l) accepted [] ≡ setup i l
+  pub setup-good : badList requesterCapacity l ≡ false → goodIdentity i ≡ true → result (newStation i [] l) accepted [] ≡ setup standard i l
   unfolding setup if_then_else_
   setup-good e f = rw (e, f)

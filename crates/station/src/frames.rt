@@ -1,26 +1,29 @@
 // Frame calls.
 use crate::Outcome;
 use crate::Station;
-use crate::stations::ticked;
+use crate::clock::ticked;
+use crate::requester_lists::find;
+use events::LOG_CAPACITY;
 use events::Log;
+use model::REQUESTER_CAPACITY;
+use model::REQUESTER_LAST;
 use octets::Refusal;
 use octets::causes;
 use octets::is_group;
 use octets::least;
 use requesters::Answer;
+use requesters::new_diagnostics;
+use requesters::new_events;
+use requesters::renews_diagnostics;
+use requesters::renews_events;
 use requests::Request;
 use requests::read_request;
-use slots::find;
-use slots::new_diagnostics;
-use slots::new_events;
-use slots::renews_diagnostics;
-use slots::renews_events;
 use units::Milliseconds;
 ghost use mathlib.Core.Path.{_≡_};
 ghost use mathlib.Core.List.{[]};
 ghost use lib.ListN.{length};
 ghost use Rattle.events.specs.Log.{logged as Log·logged};
-ghost use Rattle.model.specs.Model.{frame};
+ghost use Rattle.model.specs.Model.{standard, frame};
 ghost use Rattle.model.specs.Stations.{requestCall, step};
 ghost use Rattle.requesters.specs.Views.{viewAnswer};
 ghost use Rattle.station.specs.Internal.{frameRefusal, frameAnswer};
@@ -30,7 +33,7 @@ ghost use Rattle.station.specs.Views.{view, viewOutcome};
 fn logged_in(log: Log) -> usize
     ensures { λ r. ⌜ r ≡ length (Log·logged log) ⌝ }
 {
-    least(log.count, 64)
+    least(log.count, LOG_CAPACITY)
 }
 
 // Why a frame is refused, whose source found its requester or did not; number 0 where it is not. The
@@ -72,8 +75,8 @@ fn take_request(
     let log = g.log;
     let all = g.requesters;
     let i = find(all, g.count, source);
-    let found = i < least(g.count, 4);
-    let at = least(i, 3);
+    let found = i < least(g.count, REQUESTER_CAPACITY);
+    let at = least(i, REQUESTER_LAST);
     let read = q.refusal;
     let refusal = frame_refusal(destination, found, read);
     let accepted = refusal.number == 0;
@@ -111,7 +114,7 @@ impl Station {
         source: [u8; 6],
         o: &[u8],
     ) -> Outcome
-        ensures { λ r. ⌜ viewOutcome r [] ≡ step (view self) (frame (reading .0) destination source (now (o .entry))) ⌝ }
+        ensures { λ r. ⌜ viewOutcome r [] ≡ step standard (view self) (frame (reading .0) destination source (now (o .entry))) ⌝ }
     {
         let g = ticked(self, reading);
         take_request(g, reading, destination, source, read_request(o))

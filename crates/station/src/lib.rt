@@ -1,10 +1,15 @@
 // A station (document 01: a gate): its identity, its log and its requesters, and the calls on it.
+mod clock;
 mod frames;
 mod logging;
-mod reporting;
-mod stations;
+mod moves;
+mod outcomes;
+mod reports;
+mod requester_lists;
+mod setup;
 
 use events::Log;
+use model::REQUESTER_CAPACITY;
 use requesters::Answer;
 use requesters::Requester;
 
@@ -16,7 +21,7 @@ pub struct Station {
     pub identity: [u8; 252],
     pub length: usize,
     pub log: Log,
-    pub requesters: [Requester; 4],
+    pub requesters: [Requester; REQUESTER_CAPACITY],
     pub count: usize,
 }
 

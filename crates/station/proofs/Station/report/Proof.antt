@@ -13,10 +13,10 @@ use borrow.Author.Needs.{needs}
 use Rattle.station.proofs.Station.report.Statement.{statement}
 use Rattle.station.proofs.Station.report.Tie as tie
 use Rattle.octets.proofs.least.Reads as least-reads
-use Rattle.slots.proofs.find.Reads as find-reads
-use Rattle.slots.proofs.tick_requesters.Reads as tick-requesters-reads
-use Rattle.station.proofs.reporting.serve_report.Reads as serve-report-reads
-use Rattle.station.proofs.stations.outcome_with.Reads as outcome-with-reads
+use Rattle.station.proofs.requester_lists.find.Reads as find-reads
+use Rattle.station.proofs.requester_lists.tick_requesters.Reads as tick-requesters-reads
+use Rattle.station.proofs.reports.serve_report.Reads as serve-report-reads
+use Rattle.station.proofs.outcomes.outcome_with.Reads as outcome-with-reads
 
 find-requires : tie.Need-find-requires
 find-requires c κs = search needs

@@ -12,7 +12,7 @@ use Rattle.laws.proofs.Arrays.{length-mapped}
 use Rattle.model.specs.Events.{openEvents}
 use Rattle.requesters.specs.declared.Requester.{Requester}
 use Rattle.requesters.specs.Views.{viewEvents, viewDiagnostics}
-use Rattle.slots.proofs.RequesterLaws.{pastRequesters}
+use Rattle.station.proofs.RequesterLaws.{pastRequesters}
 use Rattle.station.specs.Views.{view, viewOutcome}
 use Rattle.station.proofs.CallLaws.{renews, frame-taken}
 use borrow.Author.Needs.{needs}

@@ -1,0 +1,47 @@
+-- `report_calls::report_frames::put_header` meets its contract.
+-- Assumes nothing.
+use Prim.Native.Nat.{ℕ, min}
+use mathlib.Core.Path.{ap, _∙_}
+use mathlib.Core.List.{[], _∷_}
+use native.Mathlib.Omega.{arith}
+use lib.ListN.{length}
+use Rattle.laws.specs.Buffers.{Written}
+use Rattle.laws.proofs.Buffers.{put-at-fits, length-onto}
+use Rattle.octets.specs.Numbers.{category, longestFrame, reportAction}
+use borrow.Author.Needs.{needs}
+use Rattle.report_calls.proofs.report_frames.put_header.Statement.{statement}
+use Rattle.report_calls.proofs.report_frames.put_header.Tie as tie
+
+report-action-requires : tie.Need-report-action-requires
+report-action-requires c κs = search needs
+
+slice-aggregate-put : tie.Need-slice-aggregate-put
+slice-aggregate-put c = search needs
+
+put-requires : tie.Need-put-requires
+put-requires c κs = search needs
+
+least-requires : tie.Need-least-requires
+least-requires c κs = search needs
+
+same-length : tie.Need-same-length
+same-length c = search needs
+
+returns : tie.Need-returns
+returns c =
+    let a = c .before .before .before .before .before .before .before .before .args in
+    let s = a .buf .now in
+    let header = category ∷ reportAction (a .kind) ∷ a .dialog ∷ [] in
+    let put = ap (λ (w : Written). w .octets) (rw (c .before .before .before .before .before .before .report-action .ensures) at (c .before .before .before .put .ensures) ∙ put-at-fits header 0 s (omega (arith, c .before .before .before .before .before .before .before .before .pre))) in
+    (c .least .ensures ∙ ap (λ (k : ℕ). min k longestFrame) (ap length put ∙ length-onto header s (omega (arith, c .before .before .before .before .before .before .before .before .pre))), put)
+
+pub put-header-spec : {M : Type 1} → statement M
+put-header-spec =
+    tie.close
+    (tie.spec
+    report-action-requires
+    slice-aggregate-put
+    put-requires
+    least-requires
+    same-length
+    returns)

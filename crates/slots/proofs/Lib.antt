@@ -1,3 +1,0 @@
-pub mod DialogLaws
-pub mod DiagnosticLaws
-pub mod RequesterLaws

@@ -1,0 +1,69 @@
+// What a call gives: a station and an answer.
+use crate::Outcome;
+use crate::Station;
+use model::REQUESTER_CAPACITY;
+use octets::Refusal;
+use requesters::Answer;
+use requesters::Requester;
+use requesters::Served;
+ghost use mathlib.Core.Path.{_≡_};
+ghost use mathlib.Core.List.{List, map};
+ghost use Prim.Native.Nat.{ℕ};
+ghost use lib.ListN.{length, take};
+ghost use Rattle.requesters.specs.Views.{viewRequester, viewAnswer, viewServed};
+ghost use Rattle.model.specs.Stations.{result, refusedFor, served};
+ghost use Rattle.station.specs.Internal.{acceptedOutcome};
+ghost use Rattle.station.specs.Views.{view, viewOutcome};
+
+pub(crate) fn accepted_with(station: Station) -> Outcome
+    ensures { λ r. ⌜ r ≡ acceptedOutcome station ⌝ }
+{
+    Outcome {
+        station,
+        answer: Answer::Accepted,
+    }
+}
+
+// Refused by a cause of the station itself, at place 0.
+pub(crate) fn refused_with(station: Station, cause: u8) -> Outcome
+    ensures { λ r. ⌜ ((buffer : List ℕ) → viewOutcome r buffer ≡ result (view station) (refusedFor cause) buffer) ⌝ }
+{
+    let refusal = Refusal::new(cause, 0);
+    Outcome {
+        station,
+        answer: Answer::Refused(refusal),
+    }
+}
+
+// The station with other requesters, and an answer.
+pub(crate) fn outcome_with(
+    g: Station,
+    requesters: [Requester; REQUESTER_CAPACITY],
+    answer: Answer,
+) -> Outcome
+    ensures { λ r. ⌜ ((buffer : List ℕ) → viewOutcome r buffer ≡ result (record { identity = view g .identity; log = view g .log; requesters = map viewRequester (take (g .count) requesters) }) (viewAnswer answer) buffer) ⌝ }
+{
+    let identity = g.identity;
+    let log = g.log;
+    Outcome {
+        station: Station {
+            identity,
+            length: g.length,
+            log,
+            requesters,
+            count: g.count,
+        },
+        answer,
+    }
+}
+
+// A requester that a call leaves as it is, refused by a cause at place 0.
+pub(crate) fn left_alone(requester: Requester, cause: u8) -> Served
+    ensures { λ r. ⌜ ((buffer : List ℕ) → viewServed r buffer ≡ served (viewRequester requester) (refusedFor cause) buffer) ⌝ }
+{
+    let refusal = Refusal::new(cause, 0);
+    Served {
+        requester,
+        answer: Answer::Refused(refusal),
+    }
+}

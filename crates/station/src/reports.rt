@@ -1,0 +1,69 @@
+// Report calls.
+use crate::Outcome;
+use crate::Station;
+use crate::outcomes::left_alone;
+use crate::outcomes::outcome_with;
+use crate::requester_lists::find;
+use crate::requester_lists::tick_requesters;
+use events::Log;
+use model::REQUESTER_CAPACITY;
+use model::REQUESTER_LAST;
+use octets::Kind;
+use octets::causes;
+use octets::least;
+use report_calls::give_report;
+use requesters::Requester;
+use requesters::Served;
+use units::Milliseconds;
+ghost use mathlib.Core.Path.{_≡_};
+ghost use Rattle.model.specs.Model.{standard, report as Model·report};
+ghost use Rattle.events.specs.Log.{logged};
+ghost use Rattle.model.specs.Stations.{giveReport, step};
+ghost use Rattle.requesters.specs.Views.{viewIdentity, viewRequester, viewServed};
+ghost use Rattle.station.specs.Internal.{serveIf};
+ghost use Rattle.station.specs.Views.{view, viewOutcome};
+
+// A report for a requester that was found, or was not.
+fn serve_report(
+    r: Requester,
+    found: bool,
+    identity: &[u8; 252],
+    len: usize,
+    log: Log,
+    kind: Kind,
+    buf: &mut [u8],
+) -> Served
+    ensures { λ n. ⌜ viewServed n (now (buf .exit)) ≡ serveIf found (giveReport (viewIdentity len (now (identity .entry))) (logged log) kind (now (buf .entry))) (now (buf .entry)) (viewRequester r) ⌝ }
+{
+    if !found {
+        return left_alone(r, causes::UNKNOWN_REQUESTER);
+    }
+    give_report(r, identity, len, log, kind, buf)
+}
+
+impl Station {
+    // A report for a requester, into a lent buffer. One way out, as for a frame.
+    pub fn report(
+        self,
+        reading: Milliseconds,
+        source: [u8; 6],
+        kind: Kind,
+        buf: &mut [u8],
+    ) -> Outcome
+        ensures { λ r. ⌜ viewOutcome r (now (buf .exit)) ≡ step standard (view self) (Model·report (reading .0) source kind (now (buf .entry))) ⌝ }
+    {
+        let identity = self.identity;
+        let log = self.log;
+        let all = self.requesters;
+        let i = find(all, self.count, source);
+        let found = i < least(self.count, REQUESTER_CAPACITY);
+        let mut requesters = tick_requesters(all, self.count, reading);
+        let at = least(i, REQUESTER_LAST);
+        let r = requesters[at];
+        let s = serve_report(r, found, &identity, self.length, log, kind, buf);
+        let requester = s.requester;
+        let answer = s.answer;
+        requesters[at] = requester;
+        outcome_with(self, requesters, answer)
+    }
+}
