@@ -112,7 +112,7 @@ module _ (s : List ℕ) (at : ℕ) (e : Element) (r : List ℕ) where
   fields-back Diagnostic = refl
 
   -- one step over it
-  step-back : (kind : Kind) (n : ℕ) (es : List Element) → Stands kind → ElementLengths e → n < 8 → badToken kind (take n es) (e .token) ≡ false
+  step-back : (kind : Kind) (n : ℕ) (es : List Element) → Stands kind → ElementLengths e → n < elementCapacity → badToken kind (take n es) (e .token) ≡ false
       → elementStep elementCapacity s kind (atElements at n es) ≡ atElements (at + length (elementOctets kind e)) (n + 1) (set es n (readElement kind e))
   unfolding elementStep ownStep withElement elementOctets if_then_else_
   step-back kind n es h shaped few good =
@@ -124,7 +124,7 @@ module _ (s : List ℕ) (at : ℕ) (e : Element) (r : List ℕ) where
         ne-eqb (at + 2 + length b) 0 (λ z. omega (arith, z)),
         stands-first s at (elementOctets kind e) r h 0,
         eq-eqb (requestId kind) (requestId kind) refl,
-        lt-leb 8 n few,
+        lt-leb elementCapacity n few,
         stands-at s at (elementOctets kind e) r h 1 0,
         le-ltb (length b) (leastBody kind) (body-least kind),
         token-at kind h,
@@ -174,7 +174,7 @@ module _ (kind : Kind) (s : List ℕ) (whole : Elements) where
   abbrev Read : ℕ → List Element → List Element
   Read n front = map (readElement kind) front ++ drop n blankElements
 
-  pub elements-back : (es front : List Element) (at n : ℕ) → All ElementLengths es → length front ≡ n → n + length es ≤ 8 → tokenRefusal kind front es .number ≡ 0
+  pub elements-back : (es front : List Element) (at n : ℕ) → All ElementLengths es → length front ≡ n → n + length es ≤ elementCapacity → tokenRefusal kind front es .number ≡ 0
       → drop at s ≡ octetsFrom n es → at + length (octetsFrom n es) ≡ length s
       → Rest (more s) (elementStep elementCapacity s kind) whole (length s - at) (atElements at n (Read n front))
       → whole ≡ atElements (length s) (n + length es) (Read (n + length es) (front ++ es))

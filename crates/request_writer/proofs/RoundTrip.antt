@@ -36,14 +36,14 @@ pub record Accepted (kind : Kind) (dialog : ℕ) (es : List Element) (count room
   pub fits : 267 ≤ room
   pub dialog-token : eqb dialog 0 ≡ false
   pub tokens : tokenRefusal kind [] (take count es) .number ≡ 0
-  pub few : count ≤ 8
+  pub few : count ≤ elementCapacity
   pub some : lacksElement kind count ≡ false
   pub ends : w .length ≡ placeBehind kind (take count es)
 
 module _ (kind : Kind) (es : List Element) (count : ℕ) where
   pub record Elements (w : Written) : Type 0 where
     pub tokens : tokenRefusal kind [] (take count es) .number ≡ 0
-    pub few : count ≤ 8
+    pub few : count ≤ elementCapacity
     pub ends : w .length ≡ placeBehind kind (take count es)
 
   pub elements-accepted : elementsAnswer kind es count .refusal .number ≡ 0 → Elements (elementsAnswer kind es count)
@@ -52,7 +52,7 @@ module _ (kind : Kind) (es : List Element) (count : ℕ) where
       let P : Written → Type 0 = λ (w : Written). w .refusal .number ≡ 0 → Elements w in
       let bad : Refusal = tokenRefusal kind [] (take count es) in
       either P (not (eqb (bad .number) 0)) (refusedWritten (bad .number) (bad .place)) _ (λ b z. absurd (eqb-false _ 0 (not-true _ b) z))
-      (λ ok. either P (ltb 8 count) (refusedWritten ninthElement (placeBehind kind es)) (writtenLength (placeBehind kind (take count es))) (λ _ z. absurd (omega arith))
+      (λ ok. either P (ltb elementCapacity count) (refusedWritten ninthElement (placeBehind kind es)) (writtenLength (placeBehind kind (take count es))) (λ _ z. absurd (omega arith))
       (λ few _. record { tokens = eqb-true _ _ (not-false _ ok); few = ltb-false _ _ few; ends = refl }))
 
   pub record Framed (w r : Written) : Type 0 where
@@ -78,7 +78,7 @@ module _ (kind : Kind) (es : List Element) (count : ℕ) where
         let e = elements-accepted (rw (f .same) at z) in
         record { fits = ltb-false _ _ fits; dialog-token = token; tokens = e .tokens; few = e .few; some = f .some; ends = ap (λ (w : Written). w .length) (f .same) ∙ e .ends }))
 
-module _ (kind : Kind) (dialog : ℕ) (es : List Element) (count : ℕ) (s : List ℕ) (eight : length es ≡ 8) (shapes : All ElementLengths es)
+module _ (kind : Kind) (dialog : ℕ) (es : List Element) (count : ℕ) (s : List ℕ) (eight : length es ≡ elementCapacity) (shapes : All ElementLengths es)
     (ok : writeAnswer kind dialog es count (length s) .refusal .number ≡ 0) where
   abbrev pub frame : List ℕ
   frame = frameOctets kind dialog (take count es)
@@ -143,13 +143,13 @@ pub record Bounded (w : Written) : Type 0 where
 refused-bounded : (n p : ℕ) → Bounded (refusedWritten n p)
 refused-bounded n p = record { most = omega arith; refused-zero = λ _. refl }
 
-module _ (kind : Kind) (dialog : ℕ) (es : List Element) (count : ℕ) (shapes : All ElementLengths es) (eight : length es ≡ 8) where
+module _ (kind : Kind) (dialog : ℕ) (es : List Element) (count : ℕ) (shapes : All ElementLengths es) (eight : length es ≡ elementCapacity) where
   elements-bounded : Bounded (elementsAnswer kind es count)
   unfolding elementsAnswer
   elements-bounded =
       let bad : Refusal = tokenRefusal kind [] (take count es) in
       either Bounded (not (eqb (bad .number) 0)) (refusedWritten (bad .number) (bad .place)) _ (λ _. refused-bounded _ _)
-      (λ _. either Bounded (ltb 8 count) (refusedWritten ninthElement (placeBehind kind es)) (writtenLength (placeBehind kind (take count es))) (λ _. refused-bounded _ _)
+      (λ _. either Bounded (ltb elementCapacity count) (refusedWritten ninthElement (placeBehind kind es)) (writtenLength (placeBehind kind (take count es))) (λ _. refused-bounded _ _)
       (λ _. record { most = omega (arith, elements-length kind 0 (take count es) (all-take count es shapes), length-take count es); refused-zero = λ z. absurd (z refl) }))
 
   frame-bounded : (w : Written) → Bounded w → Bounded (frameAnswer kind count w)

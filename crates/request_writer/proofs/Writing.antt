@@ -22,7 +22,7 @@ use Rattle.octets.specs.Elements.{framed}
 use Rattle.subelements.specs.declared.Condition.{Condition}
 use Rattle.subelements.specs.Subelements.{lengthOf}
 use Rattle.requests.specs.declared.Element.{Element}
-use Rattle.requests.specs.Elements.{pastElements, badToken}
+use Rattle.requests.specs.Elements.{elementCapacity, pastElements, badToken}
 use Rattle.laws.proofs.Arrays.{take-next}
 use Rattle.laws.proofs.Pieces.{pieces-snoc}
 use Rattle.laws.proofs.Parts.{spelt, spelt-all}
@@ -95,16 +95,16 @@ module _ (e : Element) where
 -- ---- the elements, one behind the other: i of them stand at the front of buf, in `at` octets, and their tokens are good
 
 pub record Laying (kind : Kind) (es : List Element) (count : ℕ) (s buf : List ℕ) (at i : ℕ) : Type 0 where
-  pub few : i ≤ 8
+  pub few : i ≤ elementCapacity
   pub within : i ≤ count
-  pub eight : length es ≡ 8
+  pub eight : length es ≡ elementCapacity
   pub room : length s ≡ 264
   pub ends : at ≡ length (elementsOctets kind (take i es))
   pub small : at ≤ 33 * i
   pub front : buf ≡ onto (elementsOctets kind (take i es)) s
   pub left : tokenRefusal kind (take i es) (drop i (take count es)) ≡ tokenRefusal kind [] (take count es)
 
-pub laying-start : (kind : Kind) (es : List Element) (count : ℕ) (s : List ℕ) → length es ≡ 8 → length s ≡ 264 → Laying kind es count s s 0 0
+pub laying-start : (kind : Kind) (es : List Element) (count : ℕ) (s : List ℕ) → length es ≡ elementCapacity → length s ≡ 264 → Laying kind es count s s 0 0
 unfolding pieces
 laying-start kind es count s eight room =
     record { few = omega arith; within = omega arith; eight = eight; room = room; ends = refl; small = omega arith; front = refl; left = refl }
@@ -113,7 +113,7 @@ module _ {kind : Kind} {es : List Element} {count : ℕ} {s buf : List ℕ} {at 
   pub laying-length : length buf ≡ length s
   laying-length = ap length (l .front) ∙ length-onto (elementsOctets kind (take i es)) s (omega (arith, l .ends, l .small, l .few, l .room))
 
-  module _ (more : i < count) (next : i < 8) where
+  module _ (more : i < count) (next : i < elementCapacity) where
     pub laying-fits : 33 ≤ length (take (length buf - at) (drop at buf))
     laying-fits =
         omega (arith, l .room, l .small, laying-length, lent-length (elementsOctets kind (take i es)) [] s buf [] at (length buf - at) (sym (l .ends)) (l .front) (omega (arith, laying-length, l .small, l .room)))
@@ -145,17 +145,17 @@ module _ {kind : Kind} {es : List Element} {count : ℕ} {s buf : List ℕ} {at 
           left = rw taken (sym (rw (take-next es pastElements count i more (omega (arith, l .eight)), b)) ∙ l .left);
         }
 
-  pub laying-ninth : i < count → 8 ≤ i → refusedWritten ninthElement (3 + at) ≡ elementsAnswer kind es count
+  pub laying-ninth : i < count → elementCapacity ≤ i → refusedWritten ninthElement (3 + at) ≡ elementsAnswer kind es count
   unfolding elementsAnswer tokenRefusal if_then_else_
   laying-ninth more h =
       let all : take i es ≡ es = take-all i es (omega (arith, l .eight)) in
-      rw (← l .left, drop-of-length-le (take count es) {i = i} (omega (arith, length-take count es, l .eight)), lt-ltb 8 count (omega (arith, h, more)), l .ends, all)
+      rw (← l .left, drop-of-length-le (take count es) {i = i} (omega (arith, length-take count es, l .eight)), lt-ltb elementCapacity count (omega (arith, h, more)), l .ends, all)
 
   pub laying-end : count ≤ i → writtenLength (3 + at) ≡ elementsAnswer kind es count
   unfolding elementsAnswer tokenRefusal if_then_else_
   laying-end h =
       let k : i ≡ count = omega (arith, l .within) in
-      rw (← l .left, drop-of-length-le (take count es) {i = i} (omega (arith, length-take count es, l .eight)), le-ltb 8 count (omega (arith, l .few)), l .ends, k)
+      rw (← l .left, drop-of-length-le (take count es) {i = i} (omega (arith, length-take count es, l .eight)), le-ltb elementCapacity count (omega (arith, l .few)), l .ends, k)
 
   pub laying-done : count ≤ i → buf ≡ onto (elementsOctets kind (take count es)) s
   laying-done h = let k : i ≡ count = omega (arith, l .within) in rw (← k) (l .front)

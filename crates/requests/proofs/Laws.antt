@@ -108,7 +108,7 @@ walks at count es = record { refusal = noRefusal; at = at; count = count; elemen
 
 -- what holds before each turn: eight places, and what is left of the walk gives what the whole walk gives
 pub record Walking (s : List ℕ) (kind : Kind) (at count : ℕ) (es : List Element) : Type 0 where
-  pub eight : length es ≡ 8
+  pub eight : length es ≡ elementCapacity
   pub rest : Rest (more s) (elementStep elementCapacity s kind) (walkElements elementCapacity s kind) (length s - at) (walks at count es)
 
 pub walking-start : (s : List ℕ) (kind : Kind) → Walking s kind 3 0 blankElements
@@ -158,7 +158,7 @@ module _ {s : List ℕ} {kind : Kind} {at count : ℕ} {es : List Element} (i : 
       pub within : {n : ℕ} → n ≡ getD s (at + 1) 0 → n < 256 → end ≤ at + 257
       within m x = omega (arith, m, ends .is)
 
-      goes : (k : ℕ) (fs : List Element) → length fs ≡ 8 → walks end k fs ≡ elementStep elementCapacity s kind w → Walking s kind end k fs
+      goes : (k : ℕ) (fs : List Element) → length fs ≡ elementCapacity → walks end k fs ≡ elementStep elementCapacity s kind w → Walking s kind end k fs
       goes k fs l q = record { eight = l; rest = again _ (i .rest) (go-on _ _ _ refl h) moves q }
 
       module _ {id own : ℕ} (d : id ≡ getD s at 0) (o : own ≡ requestId kind) where
@@ -171,24 +171,24 @@ module _ {s : List ℕ} {kind : Kind} {at count : ℕ} {es : List Element} (i : 
           unfolding elementStep if_then_else_
           owns = rw (← e, ne-eqb end 0 z, ← d, ← o, eq-eqb id own y)
 
-          pub refused-ninth : {r : Request} → 8 ≤ count → r ≡ refusedRequest ninthElement at → Reads r
+          pub refused-ninth : {r : Request} → elementCapacity ≤ count → r ≡ refusedRequest ninthElement at → Reads r
           unfolding ownStep if_then_else_
-          refused-ninth k q = refuses 9 _ (λ x. omega arith) q (rw (← owns, le-leb 8 count k))
+          refused-ninth k q = refuses 9 _ (λ x. omega arith) q (rw (← owns, le-leb elementCapacity count k))
 
-          module _ (k : count < 8) {n least : ℕ} (m : n ≡ getD s (at + 1) 0) (b : least ≡ leastBody kind) where
+          module _ (k : count < elementCapacity) {n least : ℕ} (m : n ≡ getD s (at + 1) 0) (b : least ≡ leastBody kind) where
             pub refused-length : {r : Request} → n < least → r ≡ refusedRequest elementLength at → Reads r
             unfolding ownStep if_then_else_
-            refused-length l q = refuses 5 _ (λ x. omega arith) q (rw (← owns, lt-leb 8 count k, ← m, ← b, lt-ltb n least l))
+            refused-length l q = refuses 5 _ (λ x. omega arith) q (rw (← owns, lt-leb elementCapacity count k, ← m, ← b, lt-ltb n least l))
 
             module _ (l : least ≤ n) {t : ℕ} {bad : Bool} (g : t ≡ getD s (at + 2) 0) (f : bad ≡ badToken kind (take count es) t) where
               pub refused-token : {r : Request} → bad ≡ true → r ≡ refusedRequest elementToken at → Reads r
               unfolding ownStep if_then_else_
-              refused-token x q = refuses 6 _ (λ x. omega arith) q (rw (← owns, lt-leb 8 count k, ← m, ← b, le-ltb n least l, ← g, ← f, x))
+              refused-token x q = refuses 6 _ (λ x. omega arith) q (rw (← owns, lt-leb elementCapacity count k, ← m, ← b, le-ltb n least l, ← g, ← f, x))
 
               module _ (x : bad ≡ false) {subs : Subelements} (u : subs ≡ subelementsOf s kind at end) where
                 with-subelements : withElement s kind w end subs ≡ elementStep elementCapacity s kind w
                 unfolding ownStep if_then_else_
-                with-subelements = rw (← owns, lt-leb 8 count k, ← m, ← b, le-ltb n least l, ← g, ← f, x, ← u)
+                with-subelements = rw (← owns, lt-leb elementCapacity count k, ← m, ← b, le-ltb n least l, ← g, ← f, x, ← u)
 
                 pub refused-subelements : {r : Request} → (subs .refusal .number ≡ 0 → ⊥) → r ≡ refusedRequest (subs .refusal .number) (subs .refusal .place) → Reads r
                 unfolding withElement if_then_else_

@@ -4,6 +4,7 @@ use mathlib.Core.Path.{_≡_, refl, sym, ap}
 use native.Mathlib.Omega.{arith}
 use lib.ListN.{length, replicate}
 use lib.Seq.{length-take-le}
+use Rattle.requests.specs.Elements.{elementCapacity}
 use Rattle.laws.proofs.Arrays.{length-mapped}
 use Rattle.request_writer.specs.Writer.{Outcome}
 use Rattle.request_writer.proofs.Shapes.{shaped}
@@ -22,7 +23,7 @@ array-share-prefix-buf : tie.Need-array-share-prefix-buf
 array-share-prefix-buf c =
     let a = c .before .before .before .args in
     let shapes = shaped (a .elements) _ (c .before .before .before .good .1 .1 .0 .1 .1) in
-    let eight : length (a .elements) ≡ 8 = search (needs, length-mapped) in
+    let eight : length (a .elements) ≡ elementCapacity = search (needs, length-mapped) in
     let long : length (c .before .write-request .last .1 .1 .1 .1 .0) ≡ 267 = search needs in
     omega (arith, long, answer-bounded (a .kind) (a .dialog) (a .elements) (a .count) shapes eight 267 .most, ap (λ (o : Outcome). o .answer .length) (c .before .write-request .ensures))
 
@@ -30,7 +31,7 @@ slice-aggregate-read-request : tie.Need-slice-aggregate-read-request
 slice-aggregate-read-request c =
     let a = c .before .before .before .before .args in
     let shapes = shaped (a .elements) _ (c .before .before .before .before .good .1 .1 .0 .1 .1) in
-    let eight : length (a .elements) ≡ 8 = search (needs, length-mapped) in
+    let eight : length (a .elements) ≡ elementCapacity = search (needs, length-mapped) in
     let long : length (c .before .before .write-request .last .1 .1 .1 .1 .0) ≡ 267 = search needs in
     sym (length-take-le _ _ (omega (arith, long, answer-bounded (a .kind) (a .dialog) (a .elements) (a .count) shapes eight 267 .most, ap (λ (o : Outcome). o .answer .length) (c .before .before .write-request .ensures))))
 
@@ -41,7 +42,7 @@ returns : tie.Need-returns
 returns c =
     let a = c .before .before .before .before .before .args in
     let shapes = shaped (a .elements) _ (c .before .before .before .before .before .good .1 .1 .0 .1 .1) in
-    let eight : length (a .elements) ≡ 8 = search (needs, length-mapped) in
+    let eight : length (a .elements) ≡ elementCapacity = search (needs, length-mapped) in
     echo-read (a .kind) (a .dialog) (a .elements) (a .count) shapes eight (replicate 267 0) (c .before .before .before .write-request .last .1 .1 .1 .1 .0) (c .before .before .before .write-request .result) (c .read-request .result) refl (c .before .before .before .write-request .ensures) (c .read-request .ensures)
 
 pub echo-spec : {M : Type 1} → statement M

@@ -6,13 +6,13 @@ use native.Mathlib.Omega.{arith}
 use lib.ListN.{length, take, drop, length-take}
 use borrow.Author.Needs.{needs}
 use Rattle.laws.proofs.Arrays.{length-mapped}
-use Rattle.requests.specs.Elements.{hasToken}
+use Rattle.requests.specs.Elements.{elementCapacity, hasToken}
 use Rattle.requests.proofs.Laws.{token-found, token-next, token-none}
 use Rattle.requests.proofs.has_token.Statement.{statement}
 use Rattle.requests.proofs.has_token.Tie as tie
 
 abbrev Inv-loop : tie.InvT-loop
-Inv-loop n token es i₀ i = (i ≤ 8) × (length es ≡ 8) × (hasToken (drop i (take n es)) token ≡ hasToken (take n es) token)
+Inv-loop n token es i₀ i = (i ≤ elementCapacity) × (length es ≡ elementCapacity) × (hasToken (drop i (take n es)) token ≡ hasToken (take n es) token)
 
 abbrev μ-loop : tie.MeasureT-loop
 μ-loop n token es i₀ i = n - i

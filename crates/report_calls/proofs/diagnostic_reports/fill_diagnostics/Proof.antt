@@ -5,6 +5,7 @@ use Prim.Native.Nat.{_-_}
 use mathlib.Core.Path.{_≡_, _∙_}
 use native.Mathlib.Omega.{arith}
 use lib.ListN.{length, take}
+use Rattle.requests.specs.Elements.{elementCapacity}
 use borrow.Author.Needs.{needs}
 use borrow.Rule.Slice.PartMut.{same-len-mid}
 use Rattle.laws.proofs.Arrays.{length-mapped}
@@ -16,7 +17,7 @@ use Rattle.report_calls.proofs.diagnostic_reports.fill_diagnostics.Stat
 use Rattle.report_calls.proofs.diagnostic_reports.fill_diagnostics.Tie as tie
 
 abbrev Inv-loop : tie.InvT-loop
-Inv-loop identity len buf₀ d end at₀ i₀ buf at i = (length (d .elements) ≡ 8) × Filling (nextDiagnostic (take len identity)) (left i₀ (d .count) (d .elements)) buf₀ buf at (left i (d .count) (d .elements))
+Inv-loop identity len buf₀ d end at₀ i₀ buf at i = (length (d .elements) ≡ elementCapacity) × Filling (nextDiagnostic (take len identity)) (left i₀ (d .count) (d .elements)) buf₀ buf at (left i (d .count) (d .elements))
 
 abbrev μ-loop : tie.MeasureT-loop
 μ-loop identity len buf₀ d end at₀ i₀ buf at i = 8 - i

@@ -8,7 +8,7 @@ use native.Mathlib.Omega.{arith}
 use lib.ListN.{length, getD, take, drop, length-map, length-take, List·getD-map}
 use lib.Seq.{getD-take}
 use Rattle.requests.specs.declared.Element.{Element}
-use Rattle.requests.specs.Elements.{pastElements}
+use Rattle.requests.specs.Elements.{elementCapacity, pastElements}
 use Rattle.model.specs.Diagnostics.{isCancel, holdsCancel, diagnosticOf, diagnosticsOf}
 use Rattle.laws.proofs.Arrays.{length-mapped, take-within}
 use Rattle.requesters.proofs.DiagnosticLaws.{cancel-here, cancel-later, cancel-none, cancel-behind}
@@ -17,7 +17,7 @@ use Rattle.requesters.proofs.diagnostic_requests.asks_cancel.Statement.
 use Rattle.requesters.proofs.diagnostic_requests.asks_cancel.Tie as tie
 
 abbrev Inv-loop : tie.InvT-loop
-Inv-loop asked i₀ i = (i ≤ i₀) × (i₀ ≤ 8) × (length asked ≡ 8) × (false ≡ holdsCancel (drop i (map diagnosticOf (take i₀ asked))))
+Inv-loop asked i₀ i = (i ≤ i₀) × (i₀ ≤ elementCapacity) × (length asked ≡ elementCapacity) × (false ≡ holdsCancel (drop i (map diagnosticOf (take i₀ asked))))
 
 abbrev μ-loop : tie.MeasureT-loop
 μ-loop asked i₀ i = i
@@ -37,7 +37,7 @@ loop-holds : tie.Need-loop-holds Inv-loop μ-loop
 loop-holds c =
     let asked = c .before .before .args .q .elements in
     let n = c .least .result in
-    let eight : length asked ≡ 8 = search (needs, length-mapped) in
+    let eight : length asked ≡ elementCapacity = search (needs, length-mapped) in
     (omega arith, omega (arith, c .least .ensures), eight, cancel-none _ n (omega (arith, size asked n (omega (arith, c .least .ensures)))))
 
 sub-i : tie.Need-sub-i Inv-loop μ-loop

@@ -7,14 +7,14 @@ use native.Mathlib.Omega.{arith}
 use lib.ListN.{length, take, drop, length-set}
 use Rattle.model.specs.Diagnostics.{diagnosticOf, diagnosticsOf}
 use Rattle.laws.proofs.Arrays.{length-mapped, fill-none, fill-back, mapped-within}
-use Rattle.requests.specs.Elements.{pastElements}
+use Rattle.requests.specs.Elements.{elementCapacity, pastElements}
 use borrow.Author.Needs.{needs}
 use Rattle.requesters.proofs.diagnostic_requests.diagnostics_of.Statement.{statement}
 use Rattle.requesters.proofs.diagnostic_requests.diagnostics_of.Tie as tie
 
 abbrev Inv-loop : tie.InvT-loop
 Inv-loop asked end elements₀ i₀ elements i =
-    (i ≤ end) × (end ≤ 8) × (length asked ≡ 8) × (length elements ≡ 8) × (drop i (take end elements) ≡ map diagnosticOf (drop i (take end asked)))
+    (i ≤ end) × (end ≤ elementCapacity) × (length asked ≡ elementCapacity) × (length elements ≡ elementCapacity) × (drop i (take end elements) ≡ map diagnosticOf (drop i (take end asked)))
 
 abbrev μ-loop : tie.MeasureT-loop
 μ-loop asked end elements₀ i₀ elements i = i
@@ -26,7 +26,7 @@ loop-holds : tie.Need-loop-holds Inv-loop μ-loop
 loop-holds c =
     let asked = c .before .before .args .q .elements in
     let end = c .least .result in
-    let eight : length asked ≡ 8 = search (needs, length-mapped) in
+    let eight : length asked ≡ elementCapacity = search (needs, length-mapped) in
     (omega arith, omega (arith, c .least .ensures), eight, search needs, fill-none end _ ∙ sym (ap (map diagnosticOf) (fill-none end asked)))
 
 sub-i : tie.Need-sub-i Inv-loop μ-loop

@@ -4,6 +4,7 @@ use Prim.Native.Nat.{_+_, _≤_, _-_}
 use mathlib.Core.Path.{_≡_, refl, sym, _∙_, ap}
 use mathlib.Core.Logic.{⊎-elim}
 use mathlib.Core.List.{List, [], _∷_, _++_}
+use Rattle.requests.specs.Elements.{elementCapacity}
 use Rattle.model.specs.declared.Diagnostic.{Diagnostic}
 use native.Mathlib.Omega.{arith}
 use lib.ListN.{length, getD, take, drop, length-set}
@@ -18,7 +19,7 @@ use Rattle.requesters.proofs.diagnostic_requests.kept.Tie as tie
 
 abbrev Inv-loop : tie.InvT-loop
 Inv-loop reading accepted all end i₀ elements₀ count₀ i elements count =
-    (count ≤ i) × (count ≤ 8) × (end ≤ length all) × (length all ≡ 8) × (length elements ≡ 8) × (take count elements ++ onTime (reading .0) (accepted .0) (drop i (take end all)) ≡ onTime (reading .0) (accepted .0) (drop i₀ (take end all)))
+    (count ≤ i) × (count ≤ elementCapacity) × (end ≤ length all) × (length all ≡ elementCapacity) × (length elements ≡ elementCapacity) × (take count elements ++ onTime (reading .0) (accepted .0) (drop i (take end all)) ≡ onTime (reading .0) (accepted .0) (drop i₀ (take end all)))
 
 abbrev μ-loop : tie.MeasureT-loop
 μ-loop reading accepted all end i₀ elements₀ count₀ i elements count = end - i
@@ -28,7 +29,7 @@ least-requires c κs = search needs
 
 loop-holds : tie.Need-loop-holds Inv-loop μ-loop
 loop-holds c =
-    let eight : length (c .before .before .before .args .d .elements) ≡ 8 = search (needs, length-mapped) in (omega arith, omega arith, omega (arith, c .least .ensures), eight, eight, refl)
+    let eight : length (c .before .before .before .args .d .elements) ≡ elementCapacity = search (needs, length-mapped) in (omega arith, omega arith, omega (arith, c .least .ensures), eight, eight, refl)
 
 mul-x : tie.Need-mul-x Inv-loop μ-loop
 mul-x c = search needs
@@ -63,7 +64,7 @@ loop-again c =
     let size = length-within (d .elements) 8 n (l .inv .3) (d .count) (c .before .before .before .before .before .least .ensures) in
     let x = getD (d .elements) (l .i) pastDiagnostics in
     let front = take (c .if1 .count) (c .if1 .elements) in
-    let few : (c .if1 .count ≤ l .i + 1) × (c .if1 .count ≤ 8) × (length (c .if1 .elements) ≡ 8) × (front ≡ take (l .count) (l .elements) ++ onTime t (d .accepted .0) (x ∷ [])) =
+    let few : (c .if1 .count ≤ l .i + 1) × (c .if1 .count ≤ elementCapacity) × (length (c .if1 .elements) ≡ elementCapacity) × (front ≡ take (l .count) (l .elements) ++ onTime t (d .accepted .0) (x ∷ [])) =
     ⊎-elim
     (λ w.
     let late = sym (c .before .is-late .ensures) ∙ not-true _ (w .0 .taken) in

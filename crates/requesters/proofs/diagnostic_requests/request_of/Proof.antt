@@ -4,6 +4,7 @@ use mathlib.Core.Path.{_≡_}
 use native.Mathlib.Omega.{arith}
 use lib.ListN.{length, take}
 use lib.Seq.{length-take-le}
+use Rattle.requests.specs.Elements.{elementCapacity}
 use Rattle.laws.proofs.Arrays.{length-mapped}
 use Rattle.requesters.specs.Views.{viewDiagnostics}
 use Rattle.requesters.proofs.DiagnosticLaws.{unless-over}
@@ -14,7 +15,7 @@ use Rattle.requesters.proofs.diagnostic_requests.request_of.Tie as tie
 returns : tie.Need-returns
 unfolding viewDiagnostics
 returns c =
-    let a = c .before .before .args in let eight : length (a .k .elements) ≡ 8 = search (needs, length-mapped) in unless-over (a .dialog) (a .accepted .0) (take (a .k .count) (a .k .elements)) (a .k .count) (length-take-le (a .k .count) (a .k .elements) (omega arith))
+    let a = c .before .before .args in let eight : length (a .k .elements) ≡ elementCapacity = search (needs, length-mapped) in unless-over (a .dialog) (a .accepted .0) (take (a .k .count) (a .k .elements)) (a .k .count) (length-take-le (a .k .count) (a .k .elements) (omega arith))
 
 pub request-of-spec : {M : Type 1} → statement M
 request-of-spec = tie.close (tie.spec returns)

@@ -4,6 +4,7 @@ use mathlib.Core.Path.{_≡_, ap, _∙_}
 use mathlib.Core.List.{map}
 use lib.Dec.{ltb}
 use lib.ListN.{length, take}
+use Rattle.model.specs.Model.{requesterCapacity}
 use Rattle.laws.proofs.Arrays.{length-mapped}
 use Rattle.model.specs.Stations.{tick, giveReport, reportCall, act, readingOf, step}
 use Rattle.requesters.specs.Views.{viewRequester}
@@ -58,7 +59,7 @@ returns c =
     let t = a .reading .0 in
     let g = tick t (view (a .self)) in
     let rs = c .before .before .before .before .before .before .before .before .before .tick-requesters .result in
-    let four : length rs ≡ 4 = search (needs, length-mapped, c .before .before .before .before .before .before .before .before .before .tick-requesters .ok) in
+    let four : length rs ≡ requesterCapacity = search (needs, length-mapped, c .before .before .before .before .before .before .before .before .before .tick-requesters .ok) in
     let lists = c .before .before .before .before .before .before .before .before .before .tick-requesters .ensures in
     let i = c .before .before .before .before .before .before .before .before .before .before .before .find .result in
     let is = c .before .before .before .before .before .before .before .before .before .before .before .find .ensures ∙ place-ticked (a .source) t (map viewRequester (take (a .self .count) (a .self .requesters))) in

@@ -1,6 +1,7 @@
 -- `station::frames::logged_in` meets its contract.
 -- Assumes nothing.
 use mathlib.Core.Path.{_≡_, sym, _∙_}
+use Rattle.events.specs.Log.{logCapacity}
 use Rattle.laws.proofs.Arrays.{length-mapped}
 use lib.ListN.{length}
 use Rattle.events.proofs.LogLaws.{length-logged}
@@ -13,7 +14,7 @@ least-requires c κs = search needs
 
 returns : tie.Need-returns
 returns c =
-    let size : length (c .before .args .log .entries) ≡ 64 = search (needs, length-mapped) in c .least .ensures ∙ sym (length-logged (c .before .args .log) size)
+    let size : length (c .before .args .log .entries) ≡ logCapacity = search (needs, length-mapped) in c .least .ensures ∙ sym (length-logged (c .before .args .log) size)
 
 pub logged-in-spec : {M : Type 1} → statement M
 logged-in-spec = tie.close (tie.spec least-requires returns)

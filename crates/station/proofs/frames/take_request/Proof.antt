@@ -7,6 +7,7 @@ use mathlib.Core.Option.{some}
 use lib.Dec.{ltb, eqb}
 use lib.ListN.{length, getD, set}
 use lib.Seq.{set-getD, set-set}
+use Rattle.model.specs.Model.{requesterCapacity}
 use Rattle.laws.specs.Choice.{if_then_else_}
 use Rattle.laws.proofs.Arrays.{length-mapped}
 use Rattle.model.specs.Events.{openEvents}
@@ -75,7 +76,7 @@ returns c =
     let rs = a .g .requesters in
     let at = c .before .before .before .before .before .before .before .before .before .before .before .before .before .least2 .result in
     let x = getD rs at pastRequesters in
-    let four : length rs ≡ 4 = search (needs, length-mapped, c .before .before .before .before .before .before .before .before .before .before .before .before .before .before .before .before .before .before .good .0) in
+    let four : length rs ≡ requesterCapacity = search (needs, length-mapped, c .before .before .before .before .before .before .before .before .before .before .before .before .before .before .before .before .before .before .good .0) in
     let i = c .before .before .before .before .before .before .before .before .before .before .before .before .before .before .before .find .result in
     let answer = c .answer-of .result in
     let ok = eqb (c .before .before .before .before .before .before .before .before .before .before .before .frame-refusal .result .number) 0 in
