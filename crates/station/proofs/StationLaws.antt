@@ -20,6 +20,8 @@ use Rattle.model.specs.Model.{Address, Station, Result, accepted}
 use Rattle.identities.specs.Identity.{stands, passRow, goodFrom, goodIdentity}
 use Rattle.model.specs.Requesters.{badList}
 use Rattle.requesters.specs.Views.{viewAnswer, viewIdentity}
+use Rattle.requesters.specs.declared.Requester.{Requester}
+use Rattle.slots.specs.Slots.{namedRequesters}
 use Rattle.slots.proofs.RequesterLaws.{named-views}
 use Rattle.station.specs.declared.Station.{Station as Code·Station}
 use Rattle.station.specs.declared.Outcome.{Outcome}
@@ -77,6 +79,11 @@ module _ (o : Outcome) where
   pub accepted-view : (g : Code·Station) → o ≡ acceptedOutcome g → viewOutcome o [] ≡ result (view g) accepted []
   unfolding viewOutcome viewAnswer
   accepted-view g e = ap (λ (x : Outcome). viewOutcome x []) e
+
+  pub accepted-named : (i : List ℕ) (n : ℕ) (log : Log) (l : List Address) (rs : List Requester)
+      → o ≡ acceptedOutcome (record { identity = i; length = n; log = log; requesters = rs; count = length l }) → rs ≡ namedRequesters l
+      → o ≡ acceptedOutcome (namedStation i n log l)
+  accepted-named i n log l rs e f = rw f at e
 
   pub accepted-leaves : (g : Code·Station) → o ≡ acceptedOutcome g → Leaves o g
   accepted-leaves g e a = ap (λ (x : Outcome). x .station) e
