@@ -20,10 +20,11 @@ use Rattle.model.specs.Model.{standard, requesterCapacity, Address, Station, Re
 use Rattle.identities.specs.Identity.{stands, passRow, goodFrom, goodIdentity}
 use Rattle.model.specs.Requesters.{badList}
 use Rattle.requesters.specs.Views.{viewAnswer, viewIdentity}
+use Rattle.requesters.specs.declared.Requester.{Requester}
 use Rattle.station.proofs.RequesterLaws.{named-views}
 use Rattle.station.specs.declared.Station.{Station as Code·Station}
 use Rattle.station.specs.declared.Outcome.{Outcome}
-use Rattle.station.specs.Memory.{namedStation, setupStation, renamedStation, Leaves}
+use Rattle.station.specs.Memory.{namedRequesters, namedStation, setupStation, renamedStation, Leaves}
 use Rattle.station.specs.Internal.{acceptedOutcome, renameCause}
 use Rattle.station.specs.Views.{view, viewOutcome}
 use Rattle.model.specs.Stations.{result, refusedFor, nobody, newStation, setup, renameWith, rename}
@@ -50,11 +51,11 @@ identity-most s =
     either P _ _ _ (λ _ e. absurd (let z : _≡_ {A = ℕ} 0 1 = cc in omega arith)) (λ h _. ltb-false 252 (length s) h)
 
 -- the identity of a station by its length
-pub view-none : (n : ℕ) (o : List ℕ) → n ≡ 0 → viewIdentity n o ≡ none
+view-none : (n : ℕ) (o : List ℕ) → n ≡ 0 → viewIdentity n o ≡ none
 unfolding viewIdentity if_then_else_
 view-none n o e = rw (eq-eqb n 0 e)
 
-pub view-some : (n : ℕ) (o : List ℕ) → (n ≡ 0 → ⊥) → viewIdentity n o ≡ some (take n o)
+view-some : (n : ℕ) (o : List ℕ) → (n ≡ 0 → ⊥) → viewIdentity n o ≡ some (take n o)
 unfolding viewIdentity if_then_else_
 view-some n o e = rw (ne-eqb n 0 e)
 
@@ -79,10 +80,15 @@ module _ (o : Outcome) where
   unfolding viewOutcome viewAnswer
   accepted-view g e = ap (λ (x : Outcome). viewOutcome x []) e
 
+  pub accepted-named : (i : List ℕ) (n : ℕ) (log : Log) (l : List Address) (rs : List Requester)
+      → o ≡ acceptedOutcome (record { identity = i; length = n; log = log; requesters = rs; count = length l }) → rs ≡ namedRequesters l
+      → o ≡ acceptedOutcome (namedStation i n log l)
+  accepted-named i n log l rs e f = rw f at e
+
   pub accepted-leaves : (g : Code·Station) → o ≡ acceptedOutcome g → Leaves o g
   accepted-leaves g e a = ap (λ (x : Outcome). x .station) e
 
-  -- one that is refused leaves no other station
+  -- of one that is refused `Leaves` says nothing
   pub refused-leaves : (g : Code·Station) (v : Station) (cause : ℕ) → viewOutcome o [] ≡ result v (refusedFor cause) [] → Leaves o g
   unfolding viewOutcome
   refused-leaves g v cause e a = let z : _≡_ {A = ℕ} 0 1 = cc (ap (λ (r : Result). r .answer) e) in absurd (omega arith)
