@@ -54,7 +54,7 @@ total g m r a e =
 
 pub total-setup : TotalSetup
 unfolding viewOutcome
-total-setup standard i l o r s e =
+total-setup i l o r s e =
     let p = refused-setup standard i l r (sym (ap (λ (x : Result). x .answer) s) ∙ e) in
     record { refusal = p .refusal; station = ap (λ (x : Result). x .station) s ∙ p .station }
 
