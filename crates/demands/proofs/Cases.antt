@@ -11,25 +11,25 @@ use Rattle.octets.specs.declared.numbers.Kind.the-variants.{Event, Diagnostic}
 use Rattle.octets.specs.Addresses.{same, addressAt}
 use Rattle.octets.specs.Elements.{pieceEnd}
 use Rattle.octets.specs.Times.{inRange, goodTime}
-use Rattle.subelements.specs.Subelements.{wholeStep, step as Subelements·step, walk}
-use Rattle.requests.specs.Elements.{subelementsOf, hasToken, badToken, withElement, ownStep, elementStep, walkElements}
+use Rattle.subelements.specs.Subelements.{wholeStep, subelementStep as Subelements·step, walk}
+use Rattle.requests.specs.Elements.{subelementsOf, badToken, withElement, ownRequestStep, elementStep, walkElements}
 use Rattle.requests.specs.Internal.{subelementsStart}
-use Rattle.requests.specs.Requests.{requestOf, kindOf, headerCause, readRequest}
+use Rattle.requests.specs.Requests.{requestOf, frameKind, headerCause, readRequest}
 use Rattle.events.specs.Log.{pushed, bodyOf, entryOf}
 use Rattle.events.specs.Choice.{firstOf, nextPlace}
 use Rattle.events.specs.Conditions.{asked, transitionMeets, meetsAt, meets}
 use Rattle.identities.specs.Identity.{stands, passRow, goodFrom, goodIdentity}
 use Rattle.reports.specs.Reports.{reportElement, eventElement}
 use Rattle.model.specs.Model.{standard, Address, Station, Call, logging, frame, report, written}
-use Rattle.model.specs.Requesters.{holds, repeated, hasGroup, badList, newRequester, find, put}
+use Rattle.model.specs.Requesters.{repeated, badList, newRequester, find, put}
 use Rattle.model.specs.Dialogs.{replace}
 use Rattle.model.specs.Fill.{fillWith, fill, nextFrame}
 use Rattle.model.specs.Events.{eventTreatment, openEvents, takeEvents, nextEventPlace, gave, without, reportFront, treatFront, nextFrom, nextEvent, unlessDone}
-use Rattle.model.specs.Diagnostics.{diagnosticTreatment, isLate, onTime, unlessOver, dropLate, holdsCancel, diagnosticsOf, takeDiagnostics, diagnosticReport, nextDiagnostic}
+use Rattle.model.specs.Diagnostics.{diagnosticTreatment, isLate, onTime, unlessOver, dropLate, diagnosticsOf, takeDiagnostics, diagnosticReport, nextDiagnostic}
 use Rattle.model.specs.Stations.{setup, tickRequester, tick, logRequester, logEntry, logCall, withRequester, serveFound, serveListed, takeKind, takeRequest, requestCall, frameCall, giveEvents, giveDiagnostics, ifOutstanding, octetsOf, giveKind, giveReport, reportCall, act, readingOf, step}
 use Rattle.model.specs.Runs.{run}
 use Rattle.model.specs.Starred.{slowTransition}
-use Rattle.laws.specs.Members.{Among, first, later}
+use Rattle.laws.specs.Members.{Among, first, later, any}
 use Rattle.laws.proofs.Members.{among-none}
 use Rattle.laws.proofs.Choice.{never}
 use Rattle.events.specs.Loggings.{Logging, TransitionLengths}
@@ -62,7 +62,7 @@ after kind n = step standard gate (report 13 console kind (zeros 260)) .answer �
 
 -- an event of 35 octets, and the identity behind five
 answered : after Event 38 × after Diagnostic 25
-unfolding zeros identity console slowTransition calls if_then_else_ repeatWhile same addressAt pieceEnd inRange goodTime wholeStep Subelements·step walk subelementsOf subelementsStart hasToken badToken withElement ownStep elementStep walkElements requestOf kindOf headerCause readRequest pushed bodyOf entryOf firstOf nextPlace asked transitionMeets meetsAt meets stands passRow goodFrom goodIdentity reportElement eventElement holds repeated hasGroup badList newRequester find put replace fillWith fill nextFrame eventTreatment openEvents takeEvents nextEventPlace gave without reportFront treatFront nextFrom nextEvent unlessDone diagnosticTreatment isLate onTime unlessOver dropLate holdsCancel diagnosticsOf takeDiagnostics diagnosticReport nextDiagnostic setup tickRequester tick logRequester logEntry logCall withRequester serveFound serveListed takeKind takeRequest requestCall frameCall giveEvents giveDiagnostics ifOutstanding octetsOf giveKind giveReport reportCall act readingOf step run
+unfolding zeros identity console slowTransition calls if_then_else_ repeatWhile same addressAt pieceEnd inRange goodTime wholeStep Subelements·step walk subelementsOf subelementsStart any badToken withElement ownRequestStep elementStep walkElements requestOf frameKind headerCause readRequest pushed bodyOf entryOf firstOf nextPlace asked transitionMeets meetsAt meets stands passRow goodFrom goodIdentity reportElement eventElement repeated badList newRequester find put replace fillWith fill nextFrame eventTreatment openEvents takeEvents nextEventPlace gave without reportFront treatFront nextFrom nextEvent unlessDone diagnosticTreatment isLate onTime unlessOver dropLate diagnosticsOf takeDiagnostics diagnosticReport nextDiagnostic setup tickRequester tick logRequester logEntry logCall withRequester serveFound serveListed takeKind takeRequest requestCall frameCall giveEvents giveDiagnostics ifOutstanding octetsOf giveKind giveReport reportCall act readingOf step run
 answered = (refl, refl)
 
 -- its one logged transition has its lengths, so both are read back

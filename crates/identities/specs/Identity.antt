@@ -38,17 +38,17 @@ pastRow = row 0 false 0 0
 unfoldable pub stands : List ℕ → ℕ → Row → Bool
 stands s at r = ltb at (length s) && eqb (getD s at 0) (r .id)
 
-abbrev pub walked : Bool → ℕ → Walk
-walked fine at = record { fine = fine; at = at }
+abbrev pub rowWalked : Bool → ℕ → Walk
+rowWalked fine at = record { fine = fine; at = at }
 
 -- a row's turn: its subelement, whole and of a body length in the row's range; or none, where it need not stand
 unfoldable pub passRow : List ℕ → ℕ → Row → Walk
 passRow s at r =
-    if not (stands s at r) then walked (not (r .must)) at
-    else if eqb (pieceEnd s at (length s)) 0 then walked false at
-    else if ltb (getD s (at + 1) 0) (r .least) then walked false at
-    else if ltb (r .most) (getD s (at + 1) 0) then walked false at
-    else walked true (pieceEnd s at (length s))
+    if not (stands s at r) then rowWalked (not (r .must)) at
+    else if eqb (pieceEnd s at (length s)) 0 then rowWalked false at
+    else if ltb (getD s (at + 1) 0) (r .least) then rowWalked false at
+    else if ltb (r .most) (getD s (at + 1) 0) then rowWalked false at
+    else rowWalked true (pieceEnd s at (length s))
 
 -- the rows left, from a position on; behind the last one nothing is left
 unfoldable pub goodFrom : List ℕ → ℕ → List Row → Bool

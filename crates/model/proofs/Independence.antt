@@ -12,7 +12,7 @@ use Rattle.events.specs.declared.Entry.{Entry}
 use Rattle.model.specs.Model.{Capacities, Address, Requester, Station, Call, clock, logging, frame, report, roam, change, accepted, Result}
 use Rattle.identities.specs.Identity.{goodIdentity}
 use Rattle.model.specs.Requesters.{badList, find}
-use Rattle.octets.specs.Refusals.{requesterList, identity}
+use Rattle.octets.specs.Refusals.{badRequesterList, badIdentity}
 use Rattle.model.specs.Stations.{result, refusedFor, newStation, nobody, setup, tick, logEntry, logCall, Served, withRequester, serveFound, serveListed, requestCall, frameCall, reportCall, renameWith, rename, act, readingOf, step}
 use Rattle.model.specs.Runs.{run, sender, reply, toSender}
 use Rattle.model.specs.Independence.{quiet, Origin, from, longer, isAccepted, since, freshReply, answers, freshAnswers, Independent, origin, IndependentCall}
@@ -75,7 +75,7 @@ module _ (most : Capacities) where
 
   module _ (i : List ℕ) (l : List Address) (g : Station) where
     abbrev named : Result
-    named = if not (goodIdentity i) then result nobody (refusedFor identity) [] else result (newStation i [] l) accepted []
+    named = if not (goodIdentity i) then result nobody (refusedFor badIdentity) [] else result (newStation i [] l) accepted []
 
     renamed-new : (o : Option (List ℕ)) → Known i o → Agree (renameWith [] l g o) named
     unfolding renameWith isAccepted Known if_then_else_
@@ -85,7 +85,7 @@ module _ (most : Capacities) where
     rename-new : Known i (g .identity) → Agree (rename most [] l g) (setup most i l)
     unfolding rename setup isAccepted
     rename-new k =
-        agree-if (badList (most .requesters) l) (result g (refusedFor requesterList) []) (result nobody (refusedFor requesterList) []) (renameWith [] l g (g .identity)) named
+        agree-if (badList (most .requesters) l) (result g (refusedFor badRequesterList) []) (result nobody (refusedFor badRequesterList) []) (renameWith [] l g (g .identity)) named
         (λ e. cc)
         (renamed-new (g .identity) k)
 

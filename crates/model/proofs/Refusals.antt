@@ -16,7 +16,7 @@ use Rattle.octets.specs.declared.numbers.Kind.{Kind}
 use Rattle.octets.specs.declared.numbers.Kind.the-variants.{Event, Diagnostic}
 use Rattle.octets.specs.declared.refusals.Refusal.{Refusal}
 use Rattle.octets.specs.Addresses.{same}
-use Rattle.octets.specs.Refusals.{noElement, groupDestination, unknownRequester, shortBuffer, timeField, requesterList, identity}
+use Rattle.octets.specs.Refusals.{noElement, groupDestination, unknownRequester, shortBuffer, badTime, badRequesterList, badIdentity}
 use Rattle.requests.specs.declared.Request.{Request}
 use Rattle.requests.specs.Requests.{requestCauses, readRequest}
 use Rattle.requests.proofs.Causes.{request-listed}
@@ -116,24 +116,24 @@ module _ (b : List ℕ) (r : Requester) where
 -- ---- moves and network changes
 
 abbrev renameCauses : List ℕ
-renameCauses = requesterList ∷ identity ∷ []
+renameCauses = badRequesterList ∷ badIdentity ∷ []
 
 module _ (most : Capacities) (log : List Entry) (l : List Address) (g : Station) where
   renamed-kept : (o : Option (List ℕ)) → Kept renameCauses g [] (renameWith log l g o)
   unfolding renameWith
-  renamed-kept none = by-cause renameCauses g [] identity (later first)
+  renamed-kept none = by-cause renameCauses g [] badIdentity (later first)
   renamed-kept (some i) = λ q e. never cc
 
   rename-kept : Kept renameCauses g [] (rename most log l g)
   unfolding rename
-  rename-kept = either (Kept renameCauses g []) _ _ _ (λ _. by-cause renameCauses g [] requesterList first) (λ _. renamed-kept (g .identity))
+  rename-kept = either (Kept renameCauses g []) _ _ _ (λ _. by-cause renameCauses g [] badRequesterList first) (λ _. renamed-kept (g .identity))
 
 -- ---- every call
 
 act-kept : (most : Capacities) (c : Call) (g : Station) → Kept (causesOf c) g (lentBuffer c) (act most c g)
 unfolding act causesOf lentBuffer logCall requestCall frameCall reportCall serveListed
 act-kept most (clock t) g = λ q e. never cc
-act-kept most (logging t e) g = either (Kept (timeField ∷ []) g []) _ _ _ (λ _. by-cause (timeField ∷ []) g [] timeField first) (λ _ q h. never cc)
+act-kept most (logging t e) g = either (Kept (badTime ∷ []) g []) _ _ _ (λ _. by-cause (badTime ∷ []) g [] badTime first) (λ _ q h. never cc)
 act-kept most (frame t d a o) g =
     either (Kept frameCauses g []) _ _ _ (λ _. by-cause frameCauses g [] groupDestination first)
     (λ _. found-kept frameCauses a (takeRequest t (g .log) (readRequest (most .elements) o)) [] g (later first) (take-left (most .elements) t (g .log) o) (find a (g .requesters)) refl)
@@ -153,8 +153,8 @@ refused-call most g c r h =
 setup-kept : (most : Capacities) (i : List ℕ) (l : List Address) → Kept setupCauses nobody [] (setup most i l)
 unfolding setup
 setup-kept most i l =
-    either (Kept setupCauses nobody []) _ _ _ (λ _. by-cause setupCauses nobody [] requesterList first)
-    (λ _. either (Kept setupCauses nobody []) _ _ _ (λ _. by-cause setupCauses nobody [] identity (later first)) (λ _ q e. never cc))
+    either (Kept setupCauses nobody []) _ _ _ (λ _. by-cause setupCauses nobody [] badRequesterList first)
+    (λ _. either (Kept setupCauses nobody []) _ _ _ (λ _. by-cause setupCauses nobody [] badIdentity (later first)) (λ _ q e. never cc))
 
 pub refused-setup : RefusedSetup
 refused-setup most i l r h = let p = setup-kept most i l r h in record { refusal = p .refusal; station = p .state }

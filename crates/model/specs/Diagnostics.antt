@@ -1,11 +1,12 @@
 -- Document 01: diagnostic requests: the late drop, what an accepted frame leaves, and what a report takes.
 -- Assumes nothing.
 use Prim.Native.Nat.{ℕ, _*_}
-use mathlib.Core.Bool.{Bool, true, false, _||_}
+use mathlib.Core.Bool.{Bool, true, false}
 use mathlib.Core.List.{List, [], _∷_, map}
 use mathlib.Core.Option.{Option, none, some}
 use lib.Dec.{eqb}
 use lib.ListN.{take}
+use Rattle.laws.specs.Members.{any}
 use Rattle.laws.specs.Choice.{if_then_else_}
 use Rattle.units.specs.Time.{age, exceeds}
 use Rattle.octets.specs.declared.numbers.Kind.the-variants.{Diagnostic as Kind·Diagnostic}
@@ -53,9 +54,8 @@ isCancel Incapable = false
 isCancel Cancel = true
 isCancel Identity = false
 
-unfoldable pub holdsCancel : List Diagnostic → Bool
-holdsCancel [] = false
-holdsCancel (x ∷ xs) = isCancel (diagnosticTreatment (x .ty)) || holdsCancel xs
+abbrev pub holdsCancel : List Diagnostic → Bool
+holdsCancel xs = any (λ x. isCancel (diagnosticTreatment (x .ty))) xs
 
 abbrev pub diagnosticOf : Element → Diagnostic
 diagnosticOf x = record { token = x .token; ty = x .ty; timeout = x .timeout }

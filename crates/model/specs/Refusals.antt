@@ -6,7 +6,7 @@ use mathlib.Core.Path.{_≡_}
 use mathlib.Core.List.{List, [], _∷_}
 use Rattle.laws.specs.Members.{Among}
 use Rattle.octets.specs.declared.refusals.Refusal.{Refusal}
-use Rattle.octets.specs.Refusals.{noElement, groupDestination, unknownRequester, shortBuffer, timeField, requesterList, identity}
+use Rattle.octets.specs.Refusals.{noElement, groupDestination, unknownRequester, shortBuffer, badTime, badRequesterList, badIdentity}
 use Rattle.requests.specs.Requests.{requestCauses}
 use Rattle.model.specs.Model.{Capacities, Address, Station, Call, clock, logging, frame, report, roam, change, refused}
 use Rattle.model.specs.Stations.{nobody, setup, readingOf, step}
@@ -24,15 +24,15 @@ lentBuffer (change t l) = []
 -- change .. is refused by 15 for its list, otherwise by 16". A bare clock reading is never refused
 unfoldable pub causesOf : Call → List ℕ
 causesOf (clock t) = []
-causesOf (logging t e) = timeField ∷ []
+causesOf (logging t e) = badTime ∷ []
 causesOf (frame t d s o) = groupDestination ∷ unknownRequester ∷ requestCauses
 causesOf (report t s k b) = unknownRequester ∷ shortBuffer ∷ []
-causesOf (roam t l) = requesterList ∷ identity ∷ []
-causesOf (change t l) = requesterList ∷ identity ∷ []
+causesOf (roam t l) = badRequesterList ∷ badIdentity ∷ []
+causesOf (change t l) = badRequesterList ∷ badIdentity ∷ []
 
 -- "Setup: 15, 16."
 abbrev pub setupCauses : List ℕ
-setupCauses = requesterList ∷ identity ∷ []
+setupCauses = badRequesterList ∷ badIdentity ∷ []
 
 -- a refusal by one of some causes; those of the station itself, past the reader's, return "place 0"
 pub record RefusedBy (causes : List ℕ) (r : Refusal) : Type 0 where

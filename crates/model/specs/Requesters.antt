@@ -6,21 +6,14 @@ use mathlib.Core.List.{List, [], _∷_}
 use mathlib.Core.Option.{Option, none, some}
 use lib.Dec.{eqb, ltb}
 use lib.ListN.{length}
+use Rattle.laws.specs.Members.{any}
 use Rattle.laws.specs.Choice.{if_then_else_}
 use Rattle.octets.specs.Addresses.{same, isGroup}
 use Rattle.model.specs.Model.{Address, Requester}
 
-unfoldable pub holds : Address → List Address → Bool
-holds a [] = false
-holds a (b ∷ bs) = same a b || holds a bs
-
 unfoldable pub repeated : List Address → Bool
 repeated [] = false
-repeated (a ∷ l) = holds a l || repeated l
-
-unfoldable pub hasGroup : List Address → Bool
-hasGroup [] = false
-hasGroup (a ∷ l) = isGroup a || hasGroup l
+repeated (a ∷ l) = any (same a) l || repeated l
 
 -- "Console list empty, over the most, repeated, or with a group address" (15)
 unfoldable pub badList : ℕ → List Address → Bool
@@ -28,7 +21,7 @@ badList most l =
     if eqb (length l) 0 then true
     else if ltb most (length l) then true
     else if repeated l then true
-    else hasGroup l
+    else any isGroup l
 
 -- a requester just named: it has no request
 unfoldable pub newRequester : Address → Requester

@@ -4,40 +4,40 @@ use Prim.Native.Nat.{ℕ}
 use Rattle.octets.specs.declared.refusals.Refusal.{Refusal}
 
 -- "Frame under 3 or over 2,304 octets"
-abbrev pub frameLength : ℕ
-frameLength = 1
+abbrev pub badFrameLength : ℕ
+badFrameLength = 1
 
 -- "Category not 10; action not 0 or 2 (requests), 1 or 3 (reports)"
-abbrev pub frameHeader : ℕ
-frameHeader = 2
+abbrev pub badHeader : ℕ
+badHeader = 2
 
 -- "Request dialog token 0"
-abbrev pub dialogToken : ℕ
-dialogToken = 3
+abbrev pub zeroDialogToken : ℕ
+zeroDialogToken = 3
 
 -- "Element header or body passes the end"
-abbrev pub elementEdge : ℕ
-elementEdge = 4
+abbrev pub elementPastEnd : ℕ
+elementPastEnd = 4
 
 -- "Body under 3 (Diagnostic Request: 4)"
-abbrev pub elementLength : ℕ
-elementLength = 5
+abbrev pub shortElement : ℕ
+shortElement = 5
 
 -- "Token repeated among a frame's requests, or event token 0"
-abbrev pub elementToken : ℕ
-elementToken = 6
+abbrev pub badElementToken : ℕ
+badElementToken = 6
 
 -- "Subelement passes the end, or a transition subelement has a wrong length"
-abbrev pub subelement : ℕ
-subelement = 7
+abbrev pub badSubelement : ℕ
+badSubelement = 7
 
 -- "Transition subelement 0 to 4 repeated"
 abbrev pub repeatedSubelement : ℕ
 repeatedSubelement = 8
 
 -- "Ninth request element"
-abbrev pub ninthElement : ℕ
-ninthElement = 9
+abbrev pub tooManyElements : ℕ
+tooManyElements = 9
 
 -- "Diagnostic Request frame without one"
 abbrev pub noElement : ℕ
@@ -56,20 +56,20 @@ abbrev pub shortBuffer : ℕ
 shortBuffer = 13
 
 -- "A time field not all ones with: ms over 999, second or minute over 59, hour over 23, day not 1 to 31, month not 1 to 12"
-abbrev pub timeField : ℕ
-timeField = 14
+abbrev pub badTime : ℕ
+badTime = 14
 
 -- "Console list empty, over 4, repeated, or with a group address"
-abbrev pub requesterList : ℕ
-requesterList = 15
+abbrev pub badRequesterList : ℕ
+badRequesterList = 15
 
 -- "Identity not as above"
-abbrev pub identity : ℕ
-identity = 16
+abbrev pub badIdentity : ℕ
+badIdentity = 16
 
 -- "Report status over 4; event body not 3 with status 1 to 4; event type 0 Successful not 3 or 33"
-abbrev pub reportBody : ℕ
-reportBody = 17
+abbrev pub badReportBody : ℕ
+badReportBody = 17
 
 -- a cause's number, and the place "Returned"
 abbrev pub refused : ℕ → ℕ → Refusal

@@ -10,7 +10,7 @@ fn main() {
     let mut input = [0u8; 2311];
     let n = io::read_full(STDIN_FILENO, &mut input);
     if n < 6 {
-        print_refusal(Refusal::new(causes::FRAME_LENGTH, 0));
+        print_refusal(Refusal::new(causes::BAD_FRAME_LENGTH, 0));
         return;
     }
     let destination = address_at(&input, 0);

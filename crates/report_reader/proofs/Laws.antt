@@ -21,8 +21,8 @@ use Rattle.subelements.specs.Subelements.{walk}
 use Rattle.report_reader.specs.declared.Step.{Step}
 use Rattle.report_reader.specs.declared.Verdict.{Verdict}
 use Rattle.report_reader.specs.declared.Walk.{Walk}
-use Rattle.report_reader.specs.Reader.{refusedStep, skippedStep, foundStep, plainStep, loggedStep, bareStep, transitionStep, eventStep, walkedStep, diagnosticStep, kindStep, ownStep, stepAt, atWalk, advanced, more, judgeStep, judge, elementReadAt, Reading, reading, gathered, unread, readStep, readElements}
-use Rattle.report_reader.specs.Internal.{verdictOf, transitionAt, elementAt, Fits, stepOf}
+use Rattle.report_reader.specs.Reader.{refusedStep, skippedStep, foundStep, plainStep, loggedStep, bareStep, transitionStep, eventStep, walkedStep, diagnosticStep, kindStep, ownReportStep, stepAt, atWalk, advanced, moreReports, judgeStep, judge, elementReadAt, Reading, reading, gathered, unread, readStep, readElements}
+use Rattle.report_reader.specs.Internal.{verdictOf, transitionAt, foundElement, Fits, stepOf}
 
 -- ---- an event report of length 3 is plain
 
@@ -77,8 +77,8 @@ module _ (s : List ℕ) (at n : ℕ) (few : 3 ≤ n) (h : at + 2 + n ≤ length 
   kind-stands Event = event-stands
   kind-stands Diagnostic = walked-stands (walk s 0 (at + 5) (at + 2 + n))
 
-own-stands : (s : List ℕ) (kind : Kind) (at n : ℕ) → at + 2 + n ≤ length s → Stands s at (ownStep s kind at n)
-unfolding ownStep
+own-stands : (s : List ℕ) (kind : Kind) (at n : ℕ) → at + 2 + n ≤ length s → Stands s at (ownReportStep s kind at n)
+unfolding ownReportStep
 own-stands s kind at n h =
     either (Stands s at) _ _ _ (λ _. is-refused 5 at (omega arith))
     (λ p. either (Stands s at) _ _ _ (λ _. is-refused 17 at (omega arith)) (λ _. kind-stands s at n (ltb-false n 3 p) h kind))
@@ -114,7 +114,7 @@ goes-on s kind at t e z = rw e (step-goes s kind at (rw e at z))
 -- ---- and its verdict says the rest of it
 
 stands-told : (s : List ℕ) (at : ℕ) {t : Step} → Stands s at t → stepOf s at (verdictOf t) ≡ t
-unfolding stepOf elementAt transitionAt verdictOf plainStep loggedStep if_then_else_
+unfolding stepOf foundElement transitionAt verdictOf plainStep loggedStep if_then_else_
 stands-told s at (is-refused n p h) = refl
 stands-told s at (is-skipped e on within) = refl
 stands-told s at (is-plain n subs few h) = let e : at + 2 + n - (at + 5) ≡ n - 3 = omega arith in rw e
@@ -188,4 +188,4 @@ gathered-viewed s w t = go (not (eqb (t .refusal .number) 0)) (t .found)
 pub agrees : (s : List ℕ) (kind : Kind) → judge s kind ≡ viewed (readElements s kind)
 unfolding judge readElements judgeStep readStep
 agrees s kind =
-    view-walk viewed (unread (length s)) (more (length s)) (readStep s kind) (judgeStep s kind) (λ _. refl) (λ w. gathered-viewed s w (stepAt s kind (w .at))) (length s) (reading noRefusal 3 [])
+    view-walk viewed (unread (length s)) (moreReports (length s)) (readStep s kind) (judgeStep s kind) (λ _. refl) (λ w. gathered-viewed s w (stepAt s kind (w .at))) (length s) (reading noRefusal 3 [])

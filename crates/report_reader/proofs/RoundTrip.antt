@@ -26,8 +26,8 @@ use Rattle.octets.specs.Elements.{framed, Subelement, subelements}
 use Rattle.octets.proofs.ElementLaws.{piece-stands}
 use Rattle.octets.proofs.FieldLaws.{pair-halves}
 use Rattle.subelements.specs.declared.Subelements.{Subelements}
-use Rattle.subelements.specs.Subelements.{noFilter, wholeStep, step, walk}
-use Rattle.subelements.specs.Subelements.{more as moreSubs}
+use Rattle.subelements.specs.Subelements.{noFilter, wholeStep, subelementStep, walk}
+use Rattle.subelements.specs.Subelements.{moreSubelements as moreSubs}
 use Rattle.events.specs.declared.Transition.{Transition}
 use Rattle.events.specs.Log.{bodyOf, entryOf}
 use Rattle.events.specs.Loggings.{Logging, entryFor, TransitionLengths}
@@ -36,7 +36,7 @@ use Rattle.reports.specs.Reports.{reportElement, eventElement}
 use Rattle.report_reader.specs.declared.Event.{Event as Fields}
 use Rattle.report_reader.specs.declared.Element.{Element}
 use Rattle.report_reader.specs.declared.Step.{Step}
-use Rattle.report_reader.specs.Reader.{part, eventAt, plainElement, loggedElement, foundStep, plainStep, loggedStep, transitionStep, eventStep, walkedStep, diagnosticStep, ownStep, stepAt, reportOf, judgedReport, readReport, elementReadAt, reading, gathered, unread, readStep, readElements}
+use Rattle.report_reader.specs.Reader.{part, eventAt, plainElement, loggedElement, foundStep, plainStep, loggedStep, transitionStep, eventStep, walkedStep, diagnosticStep, ownReportStep, stepAt, reportOf, judgedReport, readReport, elementReadAt, reading, gathered, unread, readStep, readElements}
 use Rattle.report_reader.specs.Contents.{Content, statusOnly, loggedEvent, keptUnread, withSubelements, Valid, contentOctets, contentFrame, reported, contentRead, ReadAs, ReportRoundTrip}
 use Rattle.report_reader.proofs.Laws.{short-event, agrees}
 
@@ -45,14 +45,14 @@ use Rattle.report_reader.proofs.Laws.{short-event, agrees}
 atSubs : ℕ → ℕ → Subelements
 atSubs at n = record { refusal = noRefusal; at = at; count = n; filter = noFilter }
 
-sub-passes : (s : List ℕ) (end at n id : ℕ) (b r : List ℕ) → drop at s ≡ framed id b ++ r → at + 2 + length b ≤ end → step s 0 end (atSubs at n) ≡ atSubs (at + 2 + length b) (n + 1)
-unfolding step wholeStep if_then_else_ atSubs
+sub-passes : (s : List ℕ) (end at n id : ℕ) (b r : List ℕ) → drop at s ≡ framed id b ++ r → at + 2 + length b ≤ end → subelementStep s 0 end (atSubs at n) ≡ atSubs (at + 2 + length b) (n + 1)
+unfolding subelementStep wholeStep if_then_else_ atSubs
 sub-passes s end at n id b r h fits =
     rw (piece-stands s at end id b r h fits, ne-eqb (at + 2 + length b) 0 (λ z. absurd (omega arith)), le-leb 0 (getD s at 0) (omega arith))
 
 module _ (s : List ℕ) (end : ℕ) (whole : Subelements) where
   abbrev SubsLeft : ℕ → List Subelement → Type 0
-  SubsLeft at front = Rest (moreSubs end) (step s 0 end) whole (end - at) (atSubs at (length front))
+  SubsLeft at front = Rest (moreSubs end) (subelementStep s 0 end) whole (end - at) (atSubs at (length front))
 
   sub-left : (front : List Subelement) (p : Subelement) (at : ℕ) (r : List ℕ) → Unit {0} → drop at s ≡ framed (p .id) (p .octets) ++ r → at + length (framed (p .id) (p .octets)) ≤ end
       → SubsLeft at front → SubsLeft (at + length (framed (p .id) (p .octets))) (front ++ (p ∷ []))
@@ -108,7 +108,7 @@ module _ (s : List ℕ) (kind : Kind) (at token ty status : ℕ) (rest r : List 
   unfolding reportElement
   end-there = omega arith
 
-  own-there : stepAt s kind at ≡ ownStep s kind at (length body)
+  own-there : stepAt s kind at ≡ ownReportStep s kind at (length body)
   unfolding stepAt reportElement if_then_else_
   own-there =
       let l = stands-length s at o r h (omega arith) in
@@ -208,8 +208,8 @@ module _ (s : List ℕ) (at : ℕ) where
   unfolding eventStep transitionStep if_then_else_
   logged-event n m e f good = rw (e, f, m, good)
 
-  own-event : (n : ℕ) → 3 ≤ n → getD s (at + 4) 0 ≤ 4 → ownStep s Event at n ≡ eventStep s at n
-  unfolding ownStep if_then_else_
+  own-event : (n : ℕ) → 3 ≤ n → getD s (at + 4) 0 ≤ 4 → ownReportStep s Event at n ≡ eventStep s at n
+  unfolding ownReportStep if_then_else_
   own-event n few low = rw (le-ltb n 3 few, le-ltb 4 (getD s (at + 4) 0) low)
 
 -- what is found at a position: the step, and what it hands out
@@ -269,7 +269,7 @@ module _ (s : List ℕ) (at : ℕ) (r : List ℕ) where
 
   listed-back : (token ty status : ℕ) (ps : List Subelement) → status ≤ 4 → drop at s ≡ reportElement Diagnostic token ty status (subelements ps) ++ r
       → Found s Diagnostic at (withSubelements token ty status ps)
-  unfolding contentOctets ownStep diagnosticStep walkedStep if_then_else_ atSubs
+  unfolding contentOctets ownReportStep diagnosticStep walkedStep if_then_else_ atSubs
   listed-back token ty status ps few h =
       let o : List ℕ = subelements ps in
       record {

@@ -22,8 +22,8 @@ verdictOf t = record { refusal = t .refusal; found = t .found; logged = t .eleme
 unfoldable pub transitionAt : List ℕ → ℕ → Bool → Event
 transitionAt s at logged = if logged then eventAt s at else noEvent
 
-unfoldable pub elementAt : List ℕ → ℕ → Verdict → Element
-elementAt s at v = record {
+unfoldable pub foundElement : List ℕ → ℕ → Verdict → Element
+foundElement s at v = record {
   token = getD s (at + 2) 0;
   ty = getD s (at + 3) 0;
   status = getD s (at + 4) 0;
@@ -42,5 +42,5 @@ pub record Fits (s : List ℕ) (at : ℕ) (v : Verdict) : Type 0 where
 -- an element with its fields; or the refusal alone; or, of another ID, the next position alone
 unfoldable pub stepOf : List ℕ → ℕ → Verdict → Step
 stepOf s at v =
-    if v .found then foundStep (elementAt s at v) (at + 5) (v .next)
+    if v .found then foundStep (foundElement s at v) (at + 5) (v .next)
     else record { refusal = v .refusal; found = false; element = plainElement 0 0 0 0 0; rest = 0; next = record { at = v .next } }

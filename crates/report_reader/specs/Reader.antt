@@ -11,7 +11,7 @@ use Rattle.octets.specs.declared.numbers.Kind.{Kind}
 use Rattle.octets.specs.declared.numbers.Kind.the-variants.{Event as EventKind, Diagnostic}
 use Rattle.octets.specs.declared.refusals.Refusal.{Refusal}
 use Rattle.octets.specs.Numbers.{category, reportAction, reportId, successful, cancelled, shortestFrame, longestFrame}
-use Rattle.octets.specs.Refusals.{refused, noRefusal, frameLength, frameHeader, elementEdge, elementLength, reportBody, timeField, groupDestination}
+use Rattle.octets.specs.Refusals.{refused, noRefusal, badFrameLength, badHeader, elementPastEnd, shortElement, badReportBody, badTime, groupDestination}
 use Rattle.octets.specs.Fields.{pairAt}
 use Rattle.octets.specs.Addresses.{isGroup}
 use Rattle.octets.specs.Elements.{pieceEnd}
@@ -84,14 +84,14 @@ loggedStep s at =
 
 -- "event body not 3 with status 1 to 4" (17)
 unfoldable pub bareStep : List ℕ → ℕ → ℕ → Step
-bareStep s at n = if eqb n 3 then plainStep s at n 0 else refusedStep reportBody at
+bareStep s at n = if eqb n 3 then plainStep s at n 0 else refusedStep badReportBody at
 
 -- "event type 0 Successful not 3 or 33" (17), then its time (14)
 unfoldable pub transitionStep : List ℕ → ℕ → ℕ → Step
 transitionStep s at n =
     if eqb n 3 then plainStep s at n 0
-    else if not (eqb n 33) then refusedStep reportBody at
-    else if not (goodTime (part s (at + 5) 9)) then refusedStep timeField at
+    else if not (eqb n 33) then refusedStep badReportBody at
+    else if not (goodTime (part s (at + 5) 9)) then refusedStep badTime at
     else loggedStep s at
 
 -- "For status 0 of other event types the rest is kept unread."
@@ -115,18 +115,18 @@ kindStep EventKind s at n = eventStep s at n
 kindStep Diagnostic s at n = diagnosticStep s at n
 
 -- "Body under 3" (5), "Report status over 4" (17)
-unfoldable pub ownStep : List ℕ → Kind → ℕ → ℕ → Step
-ownStep s kind at n =
-    if ltb n 3 then refusedStep elementLength at
-    else if ltb cancelled (getD s (at + 4) 0) then refusedStep reportBody at
+unfoldable pub ownReportStep : List ℕ → Kind → ℕ → ℕ → Step
+ownReportStep s kind at n =
+    if ltb n 3 then refusedStep shortElement at
+    else if ltb cancelled (getD s (at + 4) 0) then refusedStep badReportBody at
     else kindStep kind s at n
 
 -- "Element header or body passes the end" (4); "only its own element ID counts .. others are passed over"
 unfoldable pub stepAt : List ℕ → Kind → ℕ → Step
 stepAt s kind at =
-    if eqb (pieceEnd s at (length s)) 0 then refusedStep elementEdge at
+    if eqb (pieceEnd s at (length s)) 0 then refusedStep elementPastEnd at
     else if not (eqb (getD s at 0) (reportId kind)) then skippedStep (pieceEnd s at (length s))
-    else ownStep s kind at (getD s (at + 1) 0)
+    else ownReportStep s kind at (getD s (at + 1) 0)
 
 -- ---- a frame
 
@@ -140,15 +140,15 @@ advanced w t =
     else if t .found then atWalk noRefusal (t .next .at) (w .count + 1)
     else atWalk noRefusal (t .next .at) (w .count)
 
-abbrev pub more : ℕ → Walk → Bool
-more end w = eqb (w .refusal .number) 0 && ltb (w .at) end
+abbrev pub moreReports : ℕ → Walk → Bool
+moreReports end w = eqb (w .refusal .number) 0 && ltb (w .at) end
 
 unfoldable pub judgeStep : List ℕ → Kind → Walk → Walk
 judgeStep s kind w = advanced w (stepAt s kind (w .at))
 
 -- all elements from the front; the first refusal stops
 unfoldable pub judge : List ℕ → Kind → Walk
-judge s kind = repeatWhile (length s) (more (length s)) (judgeStep s kind) (atWalk noRefusal 3 0)
+judge s kind = repeatWhile (length s) (moreReports (length s)) (judgeStep s kind) (atWalk noRefusal 3 0)
 
 -- a refused frame: everything but the refusal is fixed
 abbrev pub refusedReport : ℕ → ℕ → Report
@@ -167,12 +167,12 @@ judgedReport s kind = reportOf kind (getD s 2 0) (judge s kind)
 unfoldable pub readReport : List ℕ → List ℕ → Report
 readReport destination s =
     if isGroup destination then refusedReport groupDestination 0
-    else if ltb (length s) shortestFrame then refusedReport frameLength 0
-    else if ltb longestFrame (length s) then refusedReport frameLength 0
-    else if not (eqb (getD s 0 0) category) then refusedReport frameHeader 0
+    else if ltb (length s) shortestFrame then refusedReport badFrameLength 0
+    else if ltb longestFrame (length s) then refusedReport badFrameLength 0
+    else if not (eqb (getD s 0 0) category) then refusedReport badHeader 0
     else if eqb (getD s 1 0) (reportAction EventKind) then judgedReport s EventKind
     else if eqb (getD s 1 0) (reportAction Diagnostic) then judgedReport s Diagnostic
-    else refusedReport frameHeader 0
+    else refusedReport badHeader 0
 
 -- ---- the elements that the cursor hands out, from the front to the end or to the first refusal
 

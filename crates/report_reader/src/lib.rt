@@ -19,9 +19,9 @@ ghost use mathlib.Core.List.{List};
 ghost use Prim.Native.Nat.{ℕ, _+_, _^_, _≤_, _<_};
 ghost use lib.ListN.{length};
 ghost use Rattle.report_reader.specs.declared.Step.{Step};
-ghost use Rattle.report_reader.specs.Reader.{part, noEvent, eventAt, refusedStep, skippedStep, plainStep, loggedStep, transitionStep, eventStep, walkedStep, diagnosticStep, ownStep, stepAt, atWalk, advanced, refusedReport, reportOf, judgedReport, readReport};
+ghost use Rattle.report_reader.specs.Reader.{part, noEvent, eventAt, refusedStep, skippedStep, plainStep, loggedStep, transitionStep, eventStep, walkedStep, diagnosticStep, ownReportStep, stepAt, atWalk, advanced, refusedReport, reportOf, judgedReport, readReport};
 ghost use Rattle.report_reader.specs.Reader.{judge as Reader·judge};
-ghost use Rattle.report_reader.specs.Internal.{verdictOf, transitionAt, elementAt, Fits, stepOf};
+ghost use Rattle.report_reader.specs.Internal.{verdictOf, transitionAt, foundElement, Fits, stepOf};
 
 // A reported transition; the signals are source RCPI, source RSNI, target RCPI and target RSNI.
 #[repr(C)]
@@ -211,10 +211,10 @@ fn judge_transition(s: &[u8], at: usize, n: usize) -> Verdict
     ensures { λ r. ⌜ r ≡ verdictOf (transitionStep (now (s .entry)) at n) ⌝ }
 {
     if n != 33 {
-        return refused(causes::REPORT_BODY, at);
+        return refused(causes::BAD_REPORT_BODY, at);
     }
     if !good_time(time_at(s, at + 5)) {
-        return refused(causes::TIME_FIELD, at);
+        return refused(causes::BAD_TIME, at);
     }
     logged(at)
 }
@@ -228,7 +228,7 @@ fn judge_event(s: &[u8], at: usize, n: usize, end: usize) -> Verdict
         return plain(end, 0);
     }
     if s[at + 4] != numbers::SUCCESSFUL {
-        return refused(causes::REPORT_BODY, at);
+        return refused(causes::BAD_REPORT_BODY, at);
     }
     let ty = s[at + 3];
     match ty {
@@ -256,13 +256,13 @@ fn judge_diagnostic(s: &[u8], at: usize, end: usize) -> Verdict
 // An element of the frame's own ID, with n octets of body up to its end.
 fn judge_own(s: &[u8], kind: Kind, at: usize, n: usize, end: usize) -> Verdict
     requires { ⌜ (end ≡ at + 2 + n) × (end ≤ length (now s)) ⌝ }
-    ensures { λ r. ⌜ r ≡ verdictOf (ownStep (now (s .entry)) kind at n) ⌝ }
+    ensures { λ r. ⌜ r ≡ verdictOf (ownReportStep (now (s .entry)) kind at n) ⌝ }
 {
     if n < 3 {
-        return refused(causes::ELEMENT_LENGTH, at);
+        return refused(causes::SHORT_ELEMENT, at);
     }
     if numbers::CANCELLED < s[at + 4] {
-        return refused(causes::REPORT_BODY, at);
+        return refused(causes::BAD_REPORT_BODY, at);
     }
     match kind {
         Kind::Event => judge_event(s, at, n, end),
@@ -276,7 +276,7 @@ fn judge_at(s: &[u8], kind: Kind, at: usize) -> Verdict
 {
     let end = piece_end(s, at, s.len());
     if end == 0 {
-        return refused(causes::ELEMENT_EDGE, at);
+        return refused(causes::ELEMENT_PAST_END, at);
     }
     if octet(s, at) != kind.report_id() {
         return skipped(end);
@@ -300,7 +300,7 @@ fn transition_at(s: &[u8], at: usize, logged: bool) -> Event
 // The fields of an element that was found.
 fn element_at(s: &[u8], at: usize, v: Verdict) -> Element
     requires { ⌜ Fits (now s) at v ⌝ }
-    ensures { λ r. ⌜ r ≡ elementAt (now (s .entry)) at v ⌝ }
+    ensures { λ r. ⌜ r ≡ foundElement (now (s .entry)) at v ⌝ }
 {
     Element {
         token: s[at + 2],
@@ -441,13 +441,13 @@ pub fn read_report(destination: [u8; 6], s: &[u8]) -> Report
         return refused_report(causes::GROUP_DESTINATION, 0);
     }
     if s.len() < numbers::SHORTEST_FRAME {
-        return refused_report(causes::FRAME_LENGTH, 0);
+        return refused_report(causes::BAD_FRAME_LENGTH, 0);
     }
     if numbers::LONGEST_FRAME < s.len() {
-        return refused_report(causes::FRAME_LENGTH, 0);
+        return refused_report(causes::BAD_FRAME_LENGTH, 0);
     }
     if octet(s, 0) != numbers::CATEGORY {
-        return refused_report(causes::FRAME_HEADER, 0);
+        return refused_report(causes::BAD_HEADER, 0);
     }
     let action = octet(s, 1);
     if action == Kind::Event.report_action() {
@@ -456,5 +456,5 @@ pub fn read_report(destination: [u8; 6], s: &[u8]) -> Report
     if action == Kind::Diagnostic.report_action() {
         return judged(s, Kind::Diagnostic);
     }
-    refused_report(causes::FRAME_HEADER, 0)
+    refused_report(causes::BAD_HEADER, 0)
 }

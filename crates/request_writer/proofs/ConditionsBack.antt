@@ -20,7 +20,7 @@ use Rattle.octets.specs.Elements.{framed}
 use Rattle.octets.proofs.ElementLaws.{piece-stands}
 use Rattle.subelements.specs.declared.Condition.{Condition}
 use Rattle.subelements.specs.declared.Subelements.{Subelements}
-use Rattle.subelements.specs.Subelements.{lengthOf, bodyOctet, bodyAt, absent, noFilter, pastFilter, past, wholeStep, step, more}
+use Rattle.subelements.specs.Subelements.{lengthOf, bodyOctet, bodyAt, absent, noFilter, pastFilter, past, wholeStep, subelementStep, moreSubelements}
 use Rattle.laws.specs.Members.{All, also}
 use Rattle.request_writer.specs.Frames.{conditionOctets}
 use Rattle.request_writer.specs.ReadBack.{readCondition, readFilter, present}
@@ -51,8 +51,8 @@ blank-condition (suc (suc (suc (suc (suc n))))) h = absurd (omega arith)
 
 module _ (s : List ℕ) (end : ℕ) (w : Subelements) (id : ℕ) (b r : List ℕ) (h : drop (w .at) s ≡ framed id b ++ r) (fits : w .at + 2 + length b ≤ end)
     (known : id < 5) (long : length b ≡ lengthOf id) (new : getD (w .filter) id pastFilter .present ≡ false) where
-  step-known : step s 5 end w ≡ past w (w .at + 2 + length b) (set (w .filter) id (record { present = true; octets = bodyAt s (w .at + 2) (length b) }))
-  unfolding step wholeStep if_then_else_
+  step-known : subelementStep s 5 end w ≡ past w (w .at + 2 + length b) (set (w .filter) id (record { present = true; octets = bodyAt s (w .at + 2) (length b) }))
+  unfolding subelementStep wholeStep if_then_else_
   step-known =
       rw (
         piece-stands s (w .at) end id b r h fits,
@@ -88,7 +88,7 @@ module _ (s : List ℕ) (at id m n : ℕ) (x r : List ℕ) (h : drop at s ≡ id
 
 module _ (s : List ℕ) (end : ℕ) (whole : Subelements) where
   abbrev Left : ℕ → ℕ → List Condition → Type 0
-  Left at n f = Rest (more end) (step s 5 end) whole (end - at) (atSubelements at n f)
+  Left at n f = Rest (moreSubelements end) (subelementStep s 5 end) whole (end - at) (atSubelements at n f)
 
   -- the walk behind the condition c of an ID
   one-back : (c : Condition) (front : List Condition) (at n id : ℕ) (r : List ℕ) → length front ≡ id → id < 5 → SixOctets c
@@ -114,7 +114,7 @@ module _ (s : List ℕ) (end : ℕ) (whole : Subelements) where
           let o : bodyAt s (at + 2) (length b) ≡ bodyAt x 0 (lengthOf id) = ap (bodyAt s (at + 2)) lb ∙ body-back s at id (length b) (lengthOf id) x r h (omega (arith, length-of id small)) in
           let filled : set f id (record { present = true; octets = bodyAt s (at + 2) (length b) }) ≡ (front ++ (record { present = true; octets = bodyAt x 0 (lengthOf id) } ∷ [])) ++ drop (suc id) noFilter
           = rw o (fill-next front noFilter pastFilter id e small _) in
-          let stepped : step s 5 end (atSubelements at n f) ≡ atSubelements (at + length (framed id b)) (n + 1) ((front ++ (record { present = true; octets = bodyAt x 0 (lengthOf id) } ∷ [])) ++ drop (suc id) noFilter)
+          let stepped : subelementStep s 5 end (atSubelements at n f) ≡ atSubelements (at + length (framed id b)) (n + 1) ((front ++ (record { present = true; octets = bodyAt x 0 (lengthOf id) } ∷ [])) ++ drop (suc id) noFilter)
           = step-known s end (atSubelements at n f) id b r h (omega arith) small lb blank ∙ rw (p, filled) in
           again _ left (go-on 0 at end refl (omega arith)) (omega arith) (sym stepped)
       go false h fits =

@@ -27,8 +27,8 @@ use Rattle.octets.proofs.ElementLaws.{piece-stands}
 use Rattle.octets.proofs.FieldLaws.{pair-halves}
 use Rattle.subelements.specs.Subelements.{noFilter, walked, walk}
 use Rattle.requests.specs.declared.Element.{Element}
-use Rattle.requests.specs.Elements.{elementCapacity, Elements, leastBody, limitAt, timeoutAt, subelementsOf, blankElements, pastElements, hasToken, badToken, withElement, ownStep, elementStep, more}
-use Rattle.laws.specs.Members.{All, also}
+use Rattle.requests.specs.Elements.{elementCapacity, Elements, leastBody, limitAt, timeoutAt, subelementsOf, blankElements, pastElements, hasToken, badToken, withElement, ownRequestStep, elementStep, moreElements}
+use Rattle.laws.specs.Members.{All, also, any}
 use Rattle.request_writer.specs.Frames.{filterOctets, elementBody, elementOctets}
 use Rattle.request_writer.specs.Writer.{tokenRefusal}
 use Rattle.request_writer.specs.ReadBack.{ElementLengths, present, readFilter, readElement}
@@ -114,7 +114,7 @@ module _ (s : List ℕ) (at : ℕ) (e : Element) (r : List ℕ) where
   -- one step over it
   step-back : (kind : Kind) (n : ℕ) (es : List Element) → Stands kind → ElementLengths e → n < elementCapacity → badToken kind (take n es) (e .token) ≡ false
       → elementStep elementCapacity s kind (atElements at n es) ≡ atElements (at + length (elementOctets kind e)) (n + 1) (set es n (readElement kind e))
-  unfolding elementStep ownStep withElement elementOctets if_then_else_
+  unfolding elementStep ownRequestStep withElement elementOctets if_then_else_
   step-back kind n es h shaped few good =
       let b : List ℕ = elementBody kind e in
       let l = stands-length s at (elementOctets kind e) r h (omega arith) in
@@ -145,7 +145,7 @@ read-token Event e = refl
 read-token Diagnostic e = refl
 
 tokens-same : (kind : Kind) (es : List Element) (t : ℕ) → hasToken (map (readElement kind) es) t ≡ hasToken es t
-unfolding hasToken
+unfolding any
 tokens-same kind [] t = refl
 tokens-same kind (e ∷ es) t = rw (read-token kind e, tokens-same kind es t)
 
@@ -176,7 +176,7 @@ module _ (kind : Kind) (s : List ℕ) (whole : Elements) where
 
   pub elements-back : (es front : List Element) (at n : ℕ) → All ElementLengths es → length front ≡ n → n + length es ≤ elementCapacity → tokenRefusal kind front es .number ≡ 0
       → drop at s ≡ octetsFrom n es → at + length (octetsFrom n es) ≡ length s
-      → Rest (more s) (elementStep elementCapacity s kind) whole (length s - at) (atElements at n (Read n front))
+      → Rest (moreElements s) (elementStep elementCapacity s kind) whole (length s - at) (atElements at n (Read n front))
       → whole ≡ atElements (length s) (n + length es) (Read (n + length es) (front ++ es))
   unfolding pieces
   elements-back [] front at n shapes e few ok h ends left =

@@ -18,12 +18,12 @@ use Rattle.laws.proofs.Walk.{start}
 use Rattle.octets.specs.declared.numbers.Kind.{Kind}
 use Rattle.octets.specs.declared.numbers.Kind.the-variants.{Event, Diagnostic}
 use Rattle.octets.specs.declared.refusals.Refusal.{Refusal}
-use Rattle.octets.specs.Refusals.{frameLength, ninthElement, noElement}
+use Rattle.octets.specs.Refusals.{badFrameLength, tooManyElements, noElement}
 use Rattle.octets.specs.Numbers.{requestAction}
 use Rattle.requests.specs.declared.Element.{Element}
 use Rattle.requests.specs.declared.Request.{Request}
 use Rattle.requests.specs.Elements.{elementCapacity, walkElements}
-use Rattle.requests.specs.Requests.{refusedRequest, lacksElement, requestOf, kindOf, headerCause, readRequest}
+use Rattle.requests.specs.Requests.{refusedRequest, lacksElement, requestOf, frameKind, headerCause, readRequest}
 use Rattle.request_writer.specs.declared.Written.{Written}
 use Rattle.request_writer.specs.Frames.{frameOctets}
 use Rattle.request_writer.specs.Writer.{placeBehind, refusedWritten, writtenLength, tokenRefusal, elementsAnswer, frameAnswer, writeAnswer, writeOctets, Outcome, outcome, writeRequest}
@@ -52,7 +52,7 @@ module _ (kind : Kind) (es : List Element) (count : ℕ) where
       let P : Written → Type 0 = λ (w : Written). w .refusal .number ≡ 0 → Elements w in
       let bad : Refusal = tokenRefusal kind [] (take count es) in
       either P (not (eqb (bad .number) 0)) (refusedWritten (bad .number) (bad .place)) _ (λ b z. absurd (eqb-false _ 0 (not-true _ b) z))
-      (λ ok. either P (ltb elementCapacity count) (refusedWritten ninthElement (placeBehind kind es)) (writtenLength (placeBehind kind (take count es))) (λ _ z. absurd (omega arith))
+      (λ ok. either P (ltb elementCapacity count) (refusedWritten tooManyElements (placeBehind kind es)) (writtenLength (placeBehind kind (take count es))) (λ _ z. absurd (omega arith))
       (λ few _. record { tokens = eqb-true _ _ (not-false _ ok); few = ltb-false _ _ few; ends = refl }))
 
   pub record Framed (w r : Written) : Type 0 where
@@ -109,8 +109,8 @@ module _ (kind : Kind) (dialog : ℕ) (es : List Element) (count : ℕ) (s : Lis
   unfolding writeOctets if_then_else_
   frame-written = rw (frame-length, eq-eqb _ 0 ok) (take-append-seam frame (drop (length frame) s))
 
-  frame-kind : kindOf frame ≡ kind
-  unfolding kindOf frameOctets if_then_else_
+  frame-kind : frameKind frame ≡ kind
+  unfolding frameKind frameOctets if_then_else_
   frame-kind = by kind
     where
       by : (k : Kind) → (if eqb (requestAction k) 2 then Diagnostic else Event) ≡ k
@@ -149,7 +149,7 @@ module _ (kind : Kind) (dialog : ℕ) (es : List Element) (count : ℕ) (shapes 
   elements-bounded =
       let bad : Refusal = tokenRefusal kind [] (take count es) in
       either Bounded (not (eqb (bad .number) 0)) (refusedWritten (bad .number) (bad .place)) _ (λ _. refused-bounded _ _)
-      (λ _. either Bounded (ltb elementCapacity count) (refusedWritten ninthElement (placeBehind kind es)) (writtenLength (placeBehind kind (take count es))) (λ _. refused-bounded _ _)
+      (λ _. either Bounded (ltb elementCapacity count) (refusedWritten tooManyElements (placeBehind kind es)) (writtenLength (placeBehind kind (take count es))) (λ _. refused-bounded _ _)
       (λ _. record { most = omega (arith, elements-length kind 0 (take count es) (all-take count es shapes), length-take count es); refused-zero = λ z. absurd (z refl) }))
 
   frame-bounded : (w : Written) → Bounded w → Bounded (frameAnswer kind count w)
@@ -164,7 +164,7 @@ module _ (kind : Kind) (dialog : ℕ) (es : List Element) (count : ℕ) (shapes 
 
   pub echo-read : (s y : List ℕ) (w : Written) (r : Request) → length s ≡ 267 → outcome w y ≡ writeRequest kind dialog es count s → r ≡ readRequest elementCapacity (take (w .length) y)
       → r ≡ echoed kind dialog es count
-  unfolding echoed kindOf headerCause readRequest if_then_else_
+  unfolding echoed frameKind headerCause readRequest if_then_else_
   echo-read s y w r long wrote read = rw (← long) (go (eqb (writeAnswer kind dialog es count (length s) .refusal .number) 0) refl)
     where
       len : w .length ≡ writeAnswer kind dialog es count (length s) .length
@@ -173,6 +173,6 @@ module _ (kind : Kind) (dialog : ℕ) (es : List Element) (count : ℕ) (shapes 
       octets : y ≡ writeOctets kind dialog es count s
       octets = ap (λ (o : Outcome). o .octets) wrote
 
-      go : (t : Bool) → eqb (writeAnswer kind dialog es count (length s) .refusal .number) 0 ≡ t → r ≡ (if t then readBack kind dialog es count else refusedRequest frameLength 0)
+      go : (t : Bool) → eqb (writeAnswer kind dialog es count (length s) .refusal .number) 0 ≡ t → r ≡ (if t then readBack kind dialog es count else refusedRequest badFrameLength 0)
       go true q = read ∙ rw (len, octets) (read-back kind dialog es count s eight shapes (eqb-true _ 0 q))
       go false q = read ∙ rw (len, answer-bounded (length s) .refused-zero (eqb-false _ 0 q))

@@ -15,7 +15,7 @@ use Rattle.laws.specs.Buffers.{onto, pieces, wrote, putAt}
 use Rattle.laws.proofs.Buffers.{length-onto, lent, lent-length, putting-start, putting-at, putting-done}
 use Rattle.octets.specs.declared.numbers.Kind.{Kind}
 use Rattle.octets.specs.declared.numbers.Kind.the-variants.{Event, Diagnostic}
-use Rattle.octets.specs.Refusals.{elementToken, ninthElement, shortBuffer, dialogToken}
+use Rattle.octets.specs.Refusals.{badElementToken, tooManyElements, shortBuffer, zeroDialogToken}
 use Rattle.octets.specs.Numbers.{requestAction}
 use Rattle.octets.specs.Fields.{low, high}
 use Rattle.octets.specs.Elements.{framed}
@@ -121,7 +121,7 @@ module _ {kind : Kind} {es : List Element} {count : ℕ} {s buf : List ℕ} {at 
     taken : take (i + 1) es ≡ take i es ++ (getD es i pastElements ∷ [])
     taken = rw add-one (take-suc es i pastElements (omega (arith, l .eight)))
 
-    pub laying-bad : badToken kind (take i es) (getD es i pastElements .token) ≡ true → refusedWritten elementToken (3 + at) ≡ elementsAnswer kind es count
+    pub laying-bad : badToken kind (take i es) (getD es i pastElements .token) ≡ true → refusedWritten badElementToken (3 + at) ≡ elementsAnswer kind es count
     unfolding elementsAnswer tokenRefusal if_then_else_
     laying-bad b = rw (← l .left, take-next es pastElements count i more (omega (arith, l .eight)), b, l .ends)
 
@@ -145,7 +145,7 @@ module _ {kind : Kind} {es : List Element} {count : ℕ} {s buf : List ℕ} {at 
           left = rw taken (sym (rw (take-next es pastElements count i more (omega (arith, l .eight)), b)) ∙ l .left);
         }
 
-  pub laying-ninth : i < count → elementCapacity ≤ i → refusedWritten ninthElement (3 + at) ≡ elementsAnswer kind es count
+  pub laying-ninth : i < count → elementCapacity ≤ i → refusedWritten tooManyElements (3 + at) ≡ elementsAnswer kind es count
   unfolding elementsAnswer tokenRefusal if_then_else_
   laying-ninth more h =
       let all : take i es ≡ es = take-all i es (omega (arith, l .eight)) in
@@ -167,7 +167,7 @@ module _ (kind : Kind) (dialog : ℕ) (es : List Element) (count : ℕ) (s : Lis
   unfolding writeAnswer if_then_else_
   short h = rw (lt-ltb (length s) 267 h)
 
-  pub no-dialog : 267 ≤ length s → dialog ≡ 0 → refusedWritten dialogToken 0 ≡ writeAnswer kind dialog es count (length s)
+  pub no-dialog : 267 ≤ length s → dialog ≡ 0 → refusedWritten zeroDialogToken 0 ≡ writeAnswer kind dialog es count (length s)
   unfolding writeAnswer if_then_else_
   no-dialog h z = rw (le-ltb (length s) 267 h, eq-eqb dialog 0 z)
 

@@ -11,7 +11,7 @@ use Rattle.laws.specs.Choice.{if_then_else_}
 use Rattle.laws.specs.Members.{All}
 use Rattle.octets.specs.declared.numbers.Kind.{Kind}
 use Rattle.octets.specs.declared.numbers.Kind.the-variants.{Event, Diagnostic}
-use Rattle.octets.specs.Refusals.{noRefusal, frameLength}
+use Rattle.octets.specs.Refusals.{noRefusal, badFrameLength}
 use Rattle.octets.specs.Numbers.{requestBuffer}
 use Rattle.subelements.specs.declared.Condition.{Condition}
 use Rattle.subelements.specs.Subelements.{lengthOf, bodyAt, absent, noFilter}
@@ -75,4 +75,4 @@ RequestRoundTrip =
 unfoldable pub echoed : Kind → ℕ → List Element → ℕ → Request
 echoed kind dialog es count =
     if eqb (writeAnswer kind dialog es count requestBuffer .refusal .number) 0 then readBack kind dialog es count
-    else refusedRequest frameLength 0
+    else refusedRequest badFrameLength 0

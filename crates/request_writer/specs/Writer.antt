@@ -10,7 +10,7 @@ use Rattle.laws.specs.Choice.{if_then_else_}
 use Rattle.laws.specs.Buffers.{onto}
 use Rattle.octets.specs.declared.numbers.Kind.{Kind}
 use Rattle.octets.specs.declared.refusals.Refusal.{Refusal}
-use Rattle.octets.specs.Refusals.{refused, noRefusal, shortBuffer, dialogToken, ninthElement, elementToken, noElement}
+use Rattle.octets.specs.Refusals.{refused, noRefusal, shortBuffer, zeroDialogToken, tooManyElements, badElementToken, noElement}
 use Rattle.octets.specs.Numbers.{requestBuffer}
 use Rattle.requests.specs.declared.Element.{Element}
 use Rattle.requests.specs.Elements.{elementCapacity, badToken}
@@ -26,7 +26,7 @@ placeBehind kind front = 3 + length (elementsOctets kind front)
 unfoldable pub tokenRefusal : Kind → List Element → List Element → Refusal
 tokenRefusal kind front [] = noRefusal
 tokenRefusal kind front (e ∷ es) =
-    if badToken kind front (e .token) then refused elementToken (placeBehind kind front)
+    if badToken kind front (e .token) then refused badElementToken (placeBehind kind front)
     else tokenRefusal kind (front ++ (e ∷ [])) es
 
 abbrev pub refusedWritten : ℕ → ℕ → Written
@@ -40,7 +40,7 @@ unfoldable pub elementsAnswer : Kind → List Element → ℕ → Written
 elementsAnswer kind es count =
     let bad = tokenRefusal kind [] (take count es) in
     if not (eqb (bad .number) 0) then refusedWritten (bad .number) (bad .place)
-    else if ltb elementCapacity count then refusedWritten ninthElement (placeBehind kind es)
+    else if ltb elementCapacity count then refusedWritten tooManyElements (placeBehind kind es)
     else writtenLength (placeBehind kind (take count es))
 
 -- "Diagnostic Request frame without one" (10)
@@ -54,7 +54,7 @@ frameAnswer kind count w =
 unfoldable pub writeAnswer : Kind → ℕ → List Element → ℕ → ℕ → Written
 writeAnswer kind dialog es count room =
     if ltb room requestBuffer then refusedWritten shortBuffer 0
-    else if eqb dialog 0 then refusedWritten dialogToken 0
+    else if eqb dialog 0 then refusedWritten zeroDialogToken 0
     else frameAnswer kind count (elementsAnswer kind es count)
 
 -- "The answer is the frame's length; octets past it keep their values, for the request writer too." A refusal writes none.

@@ -134,11 +134,11 @@ fn put_elements(buf: &mut [u8], kind: Kind, es: [Element; 8], count: usize) -> W
     let mut i: usize = 0;
     while i < count {
         if ELEMENT_CAPACITY <= i {
-            return refused(causes::NINTH_ELEMENT, 3 + at);
+            return refused(causes::TOO_MANY_ELEMENTS, 3 + at);
         }
         let e = es[i];
         if bad_token(kind, es, i, e.token) {
-            return refused(causes::ELEMENT_TOKEN, 3 + at);
+            return refused(causes::BAD_ELEMENT_TOKEN, 3 + at);
         }
         at += put_element(&mut buf[at..], kind, e);
         i += 1;
@@ -173,7 +173,7 @@ pub fn write_request(
         return refused(causes::SHORT_BUFFER, 0);
     }
     if dialog == 0 {
-        return refused(causes::DIALOG_TOKEN, 0);
+        return refused(causes::ZERO_DIALOG_TOKEN, 0);
     }
     let mut body = [0u8; 264];
     let answer = frame_answer(kind, count, put_elements(&mut body, kind, elements, count));

@@ -11,6 +11,7 @@ use lib.Seq.{drop-cons, take-suc-set}
 use native.Mathlib.Numerals.{add-one}
 use native.Mathlib.Omega.{arith}
 use borrow.Author.Tests.{lt-ltb}
+use Rattle.laws.specs.Members.{any}
 use Rattle.laws.specs.Choice.{if_then_else_}
 use Rattle.model.specs.declared.Diagnostic.{Diagnostic}
 use Rattle.laws.proofs.Tests.{some-here, some-later, some-none, some-behind}
@@ -60,17 +61,17 @@ pastDiagnostics = record { token = 0; ty = 0; timeout = 0 }
 
 module _ (l : List Diagnostic) where
   pub cancel-here : (i : ℕ) (x : Diagnostic) → i < length l → getD l i pastDiagnostics ≡ x → isCancel (diagnosticTreatment (x .ty)) ≡ true → true ≡ holdsCancel (drop i l)
-  unfolding holdsCancel
+  unfolding any
   cancel-here i x h q e = some-here holdsCancel (λ y ys. isCancel (diagnosticTreatment (y .ty))) refl (λ y ys. refl) l i pastDiagnostics h (rw q e)
 
   pub cancel-later : (i : ℕ) (x : Diagnostic) → i < length l → getD l i pastDiagnostics ≡ x → isCancel (diagnosticTreatment (x .ty)) ≡ false → holdsCancel (drop (i + 1) l) ≡ holdsCancel (drop i l)
-  unfolding holdsCancel
+  unfolding any
   cancel-later i x h q e = some-later holdsCancel (λ y ys. isCancel (diagnosticTreatment (y .ty))) refl (λ y ys. refl) l i pastDiagnostics h (rw q e)
 
   pub cancel-none : (i : ℕ) → length l ≤ i → false ≡ holdsCancel (drop i l)
-  unfolding holdsCancel
+  unfolding any
   cancel-none i h = some-none holdsCancel (λ y ys. isCancel (diagnosticTreatment (y .ty))) refl (λ y ys. refl) l i h
 
   pub cancel-behind : (i : ℕ) → true ≡ holdsCancel (drop i l) → true ≡ holdsCancel l
-  unfolding holdsCancel
+  unfolding any
   cancel-behind i e = some-behind holdsCancel (λ y ys. isCancel (diagnosticTreatment (y .ty))) (λ y ys. refl) l i e

@@ -15,7 +15,7 @@ ghost use mathlib.Core.Bool.{_&&_};
 ghost use Prim.Native.Nat.{_≤_};
 ghost use Rattle.model.specs.Diagnostics.{diagnosticTreatment, isLate, onTime, unlessOver, dropLate, isCancel, holdsCancel, diagnosticOf, diagnosticsOf};
 ghost use Rattle.requesters.specs.Views.{left, viewDiagnostics};
-ghost use Rattle.requesters.specs.Internal.{listed, renewsDiagnostics, newDiagnostics};
+ghost use Rattle.requesters.specs.Internal.{listedElements, renewsDiagnostics, newDiagnostics};
 ghost use Rattle.requesters.specs.Blank.{blankDiagnostics};
 
 // What a diagnostic's type number decides.
@@ -46,7 +46,7 @@ fn is_late(reading: Milliseconds, accepted: Milliseconds, x: Diagnostic) -> bool
 // A request of these elements; with none it is over.
 fn request_of(dialog: u8, accepted: Milliseconds, k: Diagnostics) -> DiagnosticRequest
     requires { ⌜ k .count ≤ elementCapacity ⌝ }
-    ensures { λ r. ⌜ viewDiagnostics r ≡ unlessOver dialog (accepted .0) (listed k) ⌝ }
+    ensures { λ r. ⌜ viewDiagnostics r ≡ unlessOver dialog (accepted .0) (listedElements k) ⌝ }
 {
     let elements = k.elements;
     DiagnosticRequest {
@@ -61,7 +61,7 @@ fn request_of(dialog: u8, accepted: Milliseconds, k: Diagnostics) -> DiagnosticR
 
 // Those on time of the elements left.
 fn kept(d: DiagnosticRequest, reading: Milliseconds) -> Diagnostics
-    ensures { λ r. ⌜ (listed r ≡ onTime (reading .0) (d .accepted .0) (left (d .first) (d .count) (d .elements))) × (r .count ≤ elementCapacity) ⌝ }
+    ensures { λ r. ⌜ (listedElements r ≡ onTime (reading .0) (d .accepted .0) (left (d .first) (d .count) (d .elements))) × (r .count ≤ elementCapacity) ⌝ }
 {
     let accepted = d.accepted;
     let all = d.elements;
@@ -104,7 +104,7 @@ fn diagnostic_of(x: Element) -> Diagnostic
 // The elements that a frame asks for, from the last to the first: in the other order the compiler
 // unrolls the loop and copies each element of the frame by itself.
 fn diagnostics_of(q: Request) -> Diagnostics
-    ensures { λ r. ⌜ (listed r ≡ diagnosticsOf q) × (r .count ≤ elementCapacity) ⌝ }
+    ensures { λ r. ⌜ (listedElements r ≡ diagnosticsOf q) × (r .count ≤ elementCapacity) ⌝ }
 {
     let asked = q.elements;
     let end = least(q.count, ELEMENT_CAPACITY);

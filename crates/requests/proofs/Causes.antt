@@ -11,10 +11,10 @@ use Rattle.octets.specs.declared.numbers.Kind.{Kind}
 use Rattle.octets.specs.declared.numbers.Kind.the-variants.{Event, Diagnostic}
 use Rattle.octets.specs.Refusals.{noRefusal}
 use Rattle.subelements.specs.declared.Subelements.{Subelements}
-use Rattle.subelements.specs.Subelements.{walked, wholeStep, step, walk}
+use Rattle.subelements.specs.Subelements.{walked, wholeStep, subelementStep, walk}
 use Rattle.requests.specs.declared.Request.{Request}
-use Rattle.requests.specs.Elements.{subelementsOf, started, Elements, withElement, ownStep, elementStep, walkElements}
-use Rattle.requests.specs.Requests.{requestCauses, requestOf, kindOf, headerCause, readRequest}
+use Rattle.requests.specs.Elements.{subelementsOf, started, Elements, withElement, ownRequestStep, elementStep, walkElements}
+use Rattle.requests.specs.Requests.{requestCauses, requestOf, frameKind, headerCause, readRequest}
 
 -- none (number 0), or one of them
 abbrev causes : List ℕ
@@ -28,8 +28,8 @@ Listed n = Among n causes
 abbrev Subs : Subelements → Type 0
 Subs w = Listed (w .refusal .number)
 
-sub-listed : (s : List ℕ) (known end : ℕ) (w : Subelements) → Subs (step s known end w)
-unfolding step wholeStep
+sub-listed : (s : List ℕ) (known end : ℕ) (w : Subelements) → Subs (subelementStep s known end w)
+unfolding subelementStep wholeStep
 sub-listed s known end w =
     either Subs _ _ _ (λ _. among-test 7 causes refl)
     (λ _. either Subs _ _ _ (λ _. first)
@@ -51,7 +51,7 @@ abbrev Walked : Elements → Type 0
 Walked w = Listed (w .refusal .number)
 
 element-listed : (most : ℕ) (s : List ℕ) (kind : Kind) (w : Elements) → Walked (elementStep most s kind w)
-unfolding elementStep ownStep withElement
+unfolding elementStep ownRequestStep withElement
 element-listed most s kind w =
     either Walked _ _ _ (λ _. among-test 4 causes refl)
     (λ _. either Walked _ _ _ (λ _. first)
@@ -79,6 +79,6 @@ pub request-listed : (most : ℕ) (s : List ℕ) → Among (readRequest most s .
 unfolding readRequest requestOf
 request-listed most s =
     let P : Request → Type 0 = λ (q : Request). Listed (q .refusal .number) in
-    either P _ _ _ (λ _. header-listed s (kindOf s))
-    (λ _. either P _ _ _ (λ _. elements-listed most s (kindOf s))
+    either P _ _ _ (λ _. header-listed s (frameKind s))
+    (λ _. either P _ _ _ (λ _. elements-listed most s (frameKind s))
     (λ _. either P _ _ _ (λ _. among-test 10 causes refl) (λ _. first)))

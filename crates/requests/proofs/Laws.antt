@@ -8,23 +8,24 @@ use lib.Dec.{eqb}
 use lib.ListN.{length, getD, set, take, drop, length-set, drop-of-length-le}
 use borrow.Author.Tests.{eq-eqb, ne-eqb, eqb-true, eqb-false, le-leb, lt-leb, lt-ltb, le-ltb, ltb-false}
 use native.Mathlib.Omega.{arith}
+use Rattle.laws.specs.Members.{any}
 use Rattle.laws.specs.Choice.{if_then_else_}
 use Rattle.laws.proofs.Choice.{either}
 use Rattle.laws.proofs.Walk.{Rest, start, last, again, done, go-on, stop-refused, stop-end, keeps-while, and-first}
 use Rattle.laws.proofs.Arrays.{take-next}
 use Rattle.octets.specs.declared.numbers.Kind.{Kind}
 use Rattle.octets.specs.declared.numbers.Kind.the-variants.{Event, Diagnostic}
-use Rattle.octets.specs.Refusals.{noRefusal, elementEdge, ninthElement, elementLength, elementToken, noElement}
+use Rattle.octets.specs.Refusals.{noRefusal, elementPastEnd, tooManyElements, shortElement, badElementToken, noElement}
 use Rattle.octets.specs.Numbers.{requestId}
 use Rattle.octets.specs.Elements.{pieceEnd}
 use Rattle.octets.proofs.ElementLaws.{Ends, piece-ends}
 use Rattle.subelements.specs.declared.Condition.{Condition}
 use Rattle.subelements.specs.declared.Subelements.{Subelements}
-use Rattle.subelements.specs.Subelements.{walked, refusedWalk, past, wholeStep, step, knownOf, walk}
+use Rattle.subelements.specs.Subelements.{walked, refusedWalk, past, wholeStep, subelementStep, knownOf, walk}
 use Rattle.subelements.proofs.Laws.{walk-at-end}
 use Rattle.requests.specs.declared.Element.{Element}
 use Rattle.requests.specs.declared.Request.{Request}
-use Rattle.requests.specs.Elements.{elementCapacity, pastElements, leastBody, subelementsOf, elementOf, blankElements, hasToken, badToken, Elements, refusedElements, withElement, ownStep, elementStep, more, walkElements}
+use Rattle.requests.specs.Elements.{elementCapacity, pastElements, leastBody, subelementsOf, elementOf, blankElements, hasToken, badToken, Elements, refusedElements, withElement, ownRequestStep, elementStep, moreElements, walkElements}
 use Rattle.requests.specs.Internal.{subelementsStart}
 use Rattle.requests.specs.Requests.{refusedRequest, lacksElement, requestOf, headerCause}
 
@@ -49,8 +50,8 @@ module _ (s : List ℕ) (known from end : ℕ) where
       (λ _. either Few _ _ _ (λ _. refused-few 8 _ (omega arith))
       (λ _. past-few w next _ h p)))
 
-  step-few : (w : Subelements) → w .refusal .number ≡ 0 → Few w → Few (step s known end w)
-  unfolding step
+  step-few : (w : Subelements) → w .refusal .number ≡ 0 → Few w → Few (subelementStep s known end w)
+  unfolding subelementStep
   step-few w z p =
       either Few _ _ _ (λ _. refused-few 7 _ (omega arith))
       (λ h. whole-few w _ (piece-ends s (w .at) end (eqb-false _ _ h)) (p .behind z))
@@ -81,15 +82,15 @@ subelements-few s Diagnostic at end h = omega (arith, walk-few s 0 (at + 6) end)
 module _ (es : List Element) (n token i : ℕ) where
   module _ (h : i < n) (k : i < length es) where
     pub token-found : getD es i pastElements .token ≡ token → hasToken (drop i (take n es)) token ≡ true
-    unfolding hasToken if_then_else_
+    unfolding any if_then_else_
     token-found e = rw (take-next es pastElements n i h k, eq-eqb _ token e)
 
     pub token-next : (getD es i pastElements .token ≡ token → ⊥) → hasToken (drop i (take n es)) token ≡ hasToken (drop (i + 1) (take n es)) token
-    unfolding hasToken if_then_else_
+    unfolding any if_then_else_
     token-next e = rw (take-next es pastElements n i h k, ne-eqb _ token e)
 
   pub token-none : length (take n es) ≤ i → hasToken (drop i (take n es)) token ≡ false
-  unfolding hasToken
+  unfolding any
   token-none h = rw (drop-of-length-le (take n es) {i = i} h)
 
 -- ---- the header
@@ -109,7 +110,7 @@ walks at count es = record { refusal = noRefusal; at = at; count = count; elemen
 -- what holds before each turn: eight places, and what is left of the walk gives what the whole walk gives
 pub record Walking (s : List ℕ) (kind : Kind) (at count : ℕ) (es : List Element) : Type 0 where
   pub eight : length es ≡ elementCapacity
-  pub rest : Rest (more s) (elementStep elementCapacity s kind) (walkElements elementCapacity s kind) (length s - at) (walks at count es)
+  pub rest : Rest (moreElements s) (elementStep elementCapacity s kind) (walkElements elementCapacity s kind) (length s - at) (walks at count es)
 
 pub walking-start : (s : List ℕ) (kind : Kind) → Walking s kind 3 0 blankElements
 unfolding walkElements
@@ -144,7 +145,7 @@ module _ {s : List ℕ} {kind : Kind} {at count : ℕ} {es : List Element} (i : 
     refuses n p z q f =
         q ∙ refused-walk kind dialog n p z ∙ ap (requestOf kind dialog) (last (i .rest) (go-on _ _ _ refl h) (omega arith) f (stop-refused n 0 (length s) z))
 
-    pub refused-edge : {r : Request} → end ≡ 0 → r ≡ refusedRequest elementEdge at → Reads r
+    pub refused-edge : {r : Request} → end ≡ 0 → r ≡ refusedRequest elementPastEnd at → Reads r
     unfolding elementStep if_then_else_
     refused-edge z q = refuses 4 _ (λ x. omega arith) q (rw (← e, eq-eqb end 0 z))
 
@@ -167,27 +168,27 @@ module _ {s : List ℕ} {kind : Kind} {at count : ℕ} {es : List Element} (i : 
         passed-over y = goes count es (i .eight) (rw (← e, ne-eqb end 0 z, ← d, ← o, ne-eqb id own y))
 
         module _ (y : id ≡ own) where
-          owns : ownStep elementCapacity s kind w end ≡ elementStep elementCapacity s kind w
+          owns : ownRequestStep elementCapacity s kind w end ≡ elementStep elementCapacity s kind w
           unfolding elementStep if_then_else_
           owns = rw (← e, ne-eqb end 0 z, ← d, ← o, eq-eqb id own y)
 
-          pub refused-ninth : {r : Request} → elementCapacity ≤ count → r ≡ refusedRequest ninthElement at → Reads r
-          unfolding ownStep if_then_else_
+          pub refused-ninth : {r : Request} → elementCapacity ≤ count → r ≡ refusedRequest tooManyElements at → Reads r
+          unfolding ownRequestStep if_then_else_
           refused-ninth k q = refuses 9 _ (λ x. omega arith) q (rw (← owns, le-leb elementCapacity count k))
 
           module _ (k : count < elementCapacity) {n least : ℕ} (m : n ≡ getD s (at + 1) 0) (b : least ≡ leastBody kind) where
-            pub refused-length : {r : Request} → n < least → r ≡ refusedRequest elementLength at → Reads r
-            unfolding ownStep if_then_else_
+            pub refused-length : {r : Request} → n < least → r ≡ refusedRequest shortElement at → Reads r
+            unfolding ownRequestStep if_then_else_
             refused-length l q = refuses 5 _ (λ x. omega arith) q (rw (← owns, lt-leb elementCapacity count k, ← m, ← b, lt-ltb n least l))
 
             module _ (l : least ≤ n) {t : ℕ} {bad : Bool} (g : t ≡ getD s (at + 2) 0) (f : bad ≡ badToken kind (take count es) t) where
-              pub refused-token : {r : Request} → bad ≡ true → r ≡ refusedRequest elementToken at → Reads r
-              unfolding ownStep if_then_else_
+              pub refused-token : {r : Request} → bad ≡ true → r ≡ refusedRequest badElementToken at → Reads r
+              unfolding ownRequestStep if_then_else_
               refused-token x q = refuses 6 _ (λ x. omega arith) q (rw (← owns, lt-leb elementCapacity count k, ← m, ← b, le-ltb n least l, ← g, ← f, x))
 
               module _ (x : bad ≡ false) {subs : Subelements} (u : subs ≡ subelementsOf s kind at end) where
                 with-subelements : withElement s kind w end subs ≡ elementStep elementCapacity s kind w
-                unfolding ownStep if_then_else_
+                unfolding ownRequestStep if_then_else_
                 with-subelements = rw (← owns, lt-leb elementCapacity count k, ← m, ← b, le-ltb n least l, ← g, ← f, x, ← u)
 
                 pub refused-subelements : {r : Request} → (subs .refusal .number ≡ 0 → ⊥) → r ≡ refusedRequest (subs .refusal .number) (subs .refusal .place) → Reads r

@@ -5,12 +5,13 @@ use mathlib.Core.Bool.{Bool, true, false, not, _&&_}
 use mathlib.Core.List.{List, [], _∷_}
 use lib.ListN.{length, getD, set, take}
 use lib.Dec.{ltb, leb, eqb}
+use Rattle.laws.specs.Members.{any}
 use Rattle.laws.specs.Choice.{if_then_else_}
 use Rattle.laws.specs.Walk.{repeatWhile}
 use Rattle.octets.specs.declared.numbers.Kind.{Kind}
 use Rattle.octets.specs.declared.numbers.Kind.the-variants.{Event, Diagnostic}
 use Rattle.octets.specs.declared.refusals.Refusal.{Refusal}
-use Rattle.octets.specs.Refusals.{refused, noRefusal, elementEdge, ninthElement, elementLength, elementToken}
+use Rattle.octets.specs.Refusals.{refused, noRefusal, elementPastEnd, tooManyElements, shortElement, badElementToken}
 use Rattle.octets.specs.Numbers.{requestId}
 use Rattle.octets.specs.Fields.{pairAt}
 use Rattle.octets.specs.Elements.{pieceEnd}
@@ -67,9 +68,8 @@ abbrev pub pastElements : Element
 pastElements = record { token = 0; ty = 0; limit = 0; subs = 0; timeout = 0; filter = [] }
 
 -- whether one of the elements has the token
-unfoldable pub hasToken : List Element → ℕ → Bool
-hasToken [] token = false
-hasToken (e ∷ es) token = if eqb (e .token) token then true else hasToken es token
+abbrev pub hasToken : List Element → ℕ → Bool
+hasToken es token = any (λ e. eqb (e .token) token) es
 
 -- "or event token 0"
 abbrev pub zeroToken : Kind → ℕ → Bool
@@ -105,23 +105,23 @@ withElement s kind w end subs =
     else record { refusal = noRefusal; at = end; count = w .count + 1; elements = set (w .elements) (w .count) (elementOf s kind (w .at) subs) }
 
 -- a whole element of the frame's own ID, which ends at end: "9, 5, 6, then its subelements"; of at most so many elements
-unfoldable pub ownStep : ℕ → List ℕ → Kind → Elements → ℕ → Elements
-ownStep most s kind w end =
-    if leb most (w .count) then refusedElements ninthElement (w .at)
-    else if ltb (getD s (w .at + 1) 0) (leastBody kind) then refusedElements elementLength (w .at)
-    else if badToken kind (take (w .count) (w .elements)) (getD s (w .at + 2) 0) then refusedElements elementToken (w .at)
+unfoldable pub ownRequestStep : ℕ → List ℕ → Kind → Elements → ℕ → Elements
+ownRequestStep most s kind w end =
+    if leb most (w .count) then refusedElements tooManyElements (w .at)
+    else if ltb (getD s (w .at + 1) 0) (leastBody kind) then refusedElements shortElement (w .at)
+    else if badToken kind (take (w .count) (w .elements)) (getD s (w .at + 2) 0) then refusedElements badElementToken (w .at)
     else withElement s kind w end (subelementsOf s kind (w .at) end)
 
 -- the element at w .at: "Element header or body passes the end" (4); "In each frame only its own element ID counts"
 unfoldable pub elementStep : ℕ → List ℕ → Kind → Elements → Elements
 elementStep most s kind w =
-    if eqb (pieceEnd s (w .at) (length s)) 0 then refusedElements elementEdge (w .at)
+    if eqb (pieceEnd s (w .at) (length s)) 0 then refusedElements elementPastEnd (w .at)
     else if not (eqb (getD s (w .at) 0) (requestId kind)) then passed w (pieceEnd s (w .at) (length s))
-    else ownStep most s kind w (pieceEnd s (w .at) (length s))
+    else ownRequestStep most s kind w (pieceEnd s (w .at) (length s))
 
-abbrev pub more : List ℕ → Elements → Bool
-more s w = eqb (w .refusal .number) 0 && ltb (w .at) (length s)
+abbrev pub moreElements : List ℕ → Elements → Bool
+moreElements s w = eqb (w .refusal .number) 0 && ltb (w .at) (length s)
 
 -- "then elements from the front": those behind the three octets of the header; the first refusal stops
 unfoldable pub walkElements : ℕ → List ℕ → Kind → Elements
-walkElements most s kind = repeatWhile (length s) (more s) (elementStep most s kind) (started noRefusal 3)
+walkElements most s kind = repeatWhile (length s) (moreElements s) (elementStep most s kind) (started noRefusal 3)

@@ -8,7 +8,7 @@ use lib.Dec.{ltb, eqb}
 use Rattle.laws.specs.Choice.{if_then_else_}
 use Rattle.octets.specs.declared.numbers.Kind.{Kind}
 use Rattle.octets.specs.declared.numbers.Kind.the-variants.{Event, Diagnostic}
-use Rattle.octets.specs.Refusals.{refused, noRefusal, frameLength, frameHeader, dialogToken, elementEdge, elementLength, elementToken, subelement, repeatedSubelement, ninthElement, noElement}
+use Rattle.octets.specs.Refusals.{refused, noRefusal, badFrameLength, badHeader, zeroDialogToken, elementPastEnd, shortElement, badElementToken, badSubelement, repeatedSubelement, tooManyElements, noElement}
 use Rattle.octets.specs.Numbers.{category, requestAction, shortestFrame, longestFrame}
 use Rattle.requests.specs.declared.Request.{Request}
 use Rattle.requests.specs.Elements.{blankElements, Elements, walkElements}
@@ -16,7 +16,7 @@ use Rattle.requests.specs.Elements.{blankElements, Elements, walkElement
 -- the causes of the table that speak of a request frame
 abbrev pub requestCauses : List ℕ
 requestCauses =
-    frameLength ∷ frameHeader ∷ dialogToken ∷ elementEdge ∷ elementLength ∷ elementToken ∷ subelement ∷ repeatedSubelement ∷ ninthElement ∷ noElement ∷ []
+    badFrameLength ∷ badHeader ∷ zeroDialogToken ∷ elementPastEnd ∷ shortElement ∷ badElementToken ∷ badSubelement ∷ repeatedSubelement ∷ tooManyElements ∷ noElement ∷ []
 
 -- a refused request: everything but the refusal is fixed
 abbrev pub refusedRequest : ℕ → ℕ → Request
@@ -35,21 +35,21 @@ requestOf kind dialog w =
     else record { refusal = noRefusal; kind = kind; dialog = dialog; count = w .count; elements = w .elements }
 
 -- the kind that a frame is read as, by its action: a diagnostic's has its own; any other is held to the event's, by headerCause
-unfoldable pub kindOf : List ℕ → Kind
-kindOf s = if eqb (getD s 1 0) (requestAction Diagnostic) then Diagnostic else Event
+unfoldable pub frameKind : List ℕ → Kind
+frameKind s = if eqb (getD s 1 0) (requestAction Diagnostic) then Diagnostic else Event
 
 -- "Octets 0, 1, 2: category 10, action, dialog token": why they are refused, 1, 2 or 3 in this order; 0: they are not
 unfoldable pub headerCause : List ℕ → Kind → ℕ
 headerCause s kind =
-    if ltb (length s) shortestFrame then frameLength
-    else if ltb longestFrame (length s) then frameLength
-    else if not (eqb (getD s 0 0) category) then frameHeader
-    else if not (eqb (getD s 1 0) (requestAction kind)) then frameHeader
-    else if eqb (getD s 2 0) 0 then dialogToken
+    if ltb (length s) shortestFrame then badFrameLength
+    else if ltb longestFrame (length s) then badFrameLength
+    else if not (eqb (getD s 0 0) category) then badHeader
+    else if not (eqb (getD s 1 0) (requestAction kind)) then badHeader
+    else if eqb (getD s 2 0) 0 then zeroDialogToken
     else 0
 
 -- "1, 2, 3, then elements from the front, .. and 10 at the end", of at most so many elements
 unfoldable pub readRequest : ℕ → List ℕ → Request
 readRequest most s =
-    if not (eqb (headerCause s (kindOf s)) 0) then refusedRequest (headerCause s (kindOf s)) 0
-    else requestOf (kindOf s) (getD s 2 0) (walkElements most s (kindOf s))
+    if not (eqb (headerCause s (frameKind s)) 0) then refusedRequest (headerCause s (frameKind s)) 0
+    else requestOf (frameKind s) (getD s 2 0) (walkElements most s (frameKind s))

@@ -16,7 +16,7 @@ ghost use Prim.Native.Nat.{_+_, _≤_, _<_};
 ghost use lib.ListN.{length, getD, take};
 ghost use Rattle.requests.specs.Elements.{elementCapacity, leastBody, limitAt, timeoutAt, subelementsOf, elementOf, blankElements, hasToken, zeroToken, badToken, walkElements};
 ghost use Rattle.requests.specs.Internal.{subelementsStart};
-ghost use Rattle.requests.specs.Requests.{refusedRequest, lacksElement, requestOf, kindOf, headerCause, readRequest};
+ghost use Rattle.requests.specs.Requests.{refusedRequest, lacksElement, requestOf, frameKind, headerCause, readRequest};
 
 // The most elements that a request has.
 pub const ELEMENT_CAPACITY: usize = 8;
@@ -209,20 +209,20 @@ fn read_elements(s: &[u8], kind: Kind) -> Request
         let at = next;
         let end = piece_end(s, at, s.len());
         if end == 0 {
-            return refused(causes::ELEMENT_EDGE, at);
+            return refused(causes::ELEMENT_PAST_END, at);
         }
         next = end;
         if octet(s, at) != kind.request_id() {
             continue;
         }
         if ELEMENT_CAPACITY <= n {
-            return refused(causes::NINTH_ELEMENT, at);
+            return refused(causes::TOO_MANY_ELEMENTS, at);
         }
         if size(s, at + 1) < least_body(kind) {
-            return refused(causes::ELEMENT_LENGTH, at);
+            return refused(causes::SHORT_ELEMENT, at);
         }
         if bad_token(kind, elements, n, octet(s, at + 2)) {
-            return refused(causes::ELEMENT_TOKEN, at);
+            return refused(causes::BAD_ELEMENT_TOKEN, at);
         }
         let subs = subelements_of(s, kind, at, end);
         if subs.refusal.number != 0 {
@@ -245,7 +245,7 @@ fn read_elements(s: &[u8], kind: Kind) -> Request
 
 // The kind of a frame by its action.
 fn kind_of(s: &[u8]) -> Kind
-    ensures { λ r. ⌜ r ≡ kindOf (now (s .entry)) ⌝ }
+    ensures { λ r. ⌜ r ≡ frameKind (now (s .entry)) ⌝ }
 {
     if octet(s, 1) == Kind::Diagnostic.request_action() {
         return Kind::Diagnostic;
@@ -259,19 +259,19 @@ fn header_cause(s: &[u8], kind: Kind) -> u8
     ensures { λ r. ⌜ r ≡ headerCause (now (s .entry)) kind ⌝ }
 {
     if s.len() < numbers::SHORTEST_FRAME {
-        return causes::FRAME_LENGTH;
+        return causes::BAD_FRAME_LENGTH;
     }
     if numbers::LONGEST_FRAME < s.len() {
-        return causes::FRAME_LENGTH;
+        return causes::BAD_FRAME_LENGTH;
     }
     if octet(s, 0) != numbers::CATEGORY {
-        return causes::FRAME_HEADER;
+        return causes::BAD_HEADER;
     }
     if octet(s, 1) != kind.request_action() {
-        return causes::FRAME_HEADER;
+        return causes::BAD_HEADER;
     }
     if octet(s, 2) == 0 {
-        return causes::DIALOG_TOKEN;
+        return causes::ZERO_DIALOG_TOKEN;
     }
     0
 }

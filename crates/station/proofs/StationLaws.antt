@@ -13,7 +13,7 @@ use native.Mathlib.Omega.{arith}
 use Rattle.laws.specs.Choice.{if_then_else_}
 use Rattle.laws.specs.Buffers.{onto}
 use Rattle.laws.proofs.Choice.{either}
-use Rattle.octets.specs.Refusals.{requesterList, identity}
+use Rattle.octets.specs.Refusals.{badRequesterList, badIdentity}
 use Rattle.events.specs.declared.Entry.{Entry}
 use Rattle.events.specs.declared.Log.{Log}
 use Rattle.model.specs.Model.{standard, requesterCapacity, Address, Station, Result, accepted}
@@ -96,11 +96,11 @@ module _ (o : Outcome) where
 -- ---- the ladders, by the tests that lead to each step
 
 module _ (log : List Entry) (l : List Address) (g : Station) where
-  rename-bad : badList requesterCapacity l ≡ true → result g (refusedFor requesterList) [] ≡ rename standard log l g
+  rename-bad : badList requesterCapacity l ≡ true → result g (refusedFor badRequesterList) [] ≡ rename standard log l g
   unfolding rename if_then_else_
   rename-bad e = rw e
 
-  rename-none : badList requesterCapacity l ≡ false → g .identity ≡ none → result g (refusedFor identity) [] ≡ rename standard log l g
+  rename-none : badList requesterCapacity l ≡ false → g .identity ≡ none → result g (refusedFor badIdentity) [] ≡ rename standard log l g
   unfolding rename renameWith if_then_else_
   rename-none e f = rw (e, f)
 
@@ -123,7 +123,7 @@ rename-takes : (n : ℕ) (l : List Address) → renameCause n l ≡ 0 → (badLi
 unfolding renameCause if_then_else_
 rename-takes n l = go (badList requesterCapacity l) refl (eqb n 0) refl
   where
-    go : (b : Bool) → badList requesterCapacity l ≡ b → (z : Bool) → eqb n 0 ≡ z → (if b then requesterList else if z then identity else 0) ≡ 0 → (badList requesterCapacity l ≡ false) × (n ≡ 0 → ⊥)
+    go : (b : Bool) → badList requesterCapacity l ≡ b → (z : Bool) → eqb n 0 ≡ z → (if b then badRequesterList else if z then badIdentity else 0) ≡ 0 → (badList requesterCapacity l ≡ false) × (n ≡ 0 → ⊥)
     go true e z f h = absurd (omega arith)
     go false e true f h = absurd (omega arith)
     go false e false f h = (e, eqb-false n 0 f)
@@ -137,11 +137,11 @@ rename-taken o g v log l is free e =
     ∙ rename-some (logged log) l v _ (takes .0) (is ∙ view-some (g .length) (g .identity) (takes .1))
 
 module _ (i : List ℕ) (l : List Address) where
-  pub setup-bad-list : badList requesterCapacity l ≡ true → result nobody (refusedFor requesterList) [] ≡ setup standard i l
+  pub setup-bad-list : badList requesterCapacity l ≡ true → result nobody (refusedFor badRequesterList) [] ≡ setup standard i l
   unfolding setup if_then_else_
   setup-bad-list e = rw e
 
-  pub setup-bad-identity : badList requesterCapacity l ≡ false → goodIdentity i ≡ false → result nobody (refusedFor identity) [] ≡ setup standard i l
+  pub setup-bad-identity : badList requesterCapacity l ≡ false → goodIdentity i ≡ false → result nobody (refusedFor badIdentity) [] ≡ setup standard i l
   unfolding setup if_then_else_
   setup-bad-identity e f = rw (e, f)
 

@@ -26,7 +26,7 @@ ghost use Rattle.events.specs.Log.{logged as Log·logged};
 ghost use Rattle.model.specs.Model.{standard, frame};
 ghost use Rattle.model.specs.Stations.{requestCall, step};
 ghost use Rattle.requesters.specs.Views.{viewAnswer};
-ghost use Rattle.station.specs.Internal.{frameRefusal, frameAnswer};
+ghost use Rattle.station.specs.Internal.{frameRefusal, answerToFrame};
 ghost use Rattle.station.specs.Views.{view, viewOutcome};
 
 // How many entries are logged.
@@ -51,7 +51,7 @@ fn frame_refusal(destination: [u8; 6], found: bool, read: Refusal) -> Refusal
 }
 
 fn answer_of(refusal: Refusal) -> Answer
-    ensures { λ r. ⌜ viewAnswer r ≡ frameAnswer refusal ⌝ }
+    ensures { λ r. ⌜ viewAnswer r ≡ answerToFrame refusal ⌝ }
 {
     if refusal.number != 0 {
         return Answer::Refused(refusal);

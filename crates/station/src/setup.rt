@@ -53,10 +53,10 @@ impl Station {
         ensures { λ r. ⌜ Leaves r (setupStation (now (identity .entry)) (now (list .entry))) ⌝ }
     {
         if bad_list(list) {
-            return refused_with(nobody(), causes::REQUESTER_LIST);
+            return refused_with(nobody(), causes::BAD_REQUESTER_LIST);
         }
         if !good_identity(identity) {
-            return refused_with(nobody(), causes::IDENTITY);
+            return refused_with(nobody(), causes::BAD_IDENTITY);
         }
         accepted_with(setup_station(identity, list))
     }

@@ -10,18 +10,18 @@ use native.Mathlib.Omega.{arith}
 use Rattle.laws.specs.Choice.{if_then_else_}
 use Rattle.laws.proofs.Walk.{Rest, start, last, again, done, go-on, stop-refused, stop-end}
 use Rattle.octets.specs.Elements.{pieceEnd}
-use Rattle.octets.specs.Refusals.{noRefusal, subelement, repeatedSubelement}
+use Rattle.octets.specs.Refusals.{noRefusal, badSubelement, repeatedSubelement}
 use Rattle.octets.proofs.ElementLaws.{Ends, piece-ends}
 use Rattle.subelements.specs.declared.Condition.{Condition}
 use Rattle.subelements.specs.declared.Subelements.{Subelements}
-use Rattle.subelements.specs.Subelements.{lengthOf, bodyAt, pastFilter, walked, refusedWalk, past, wholeStep, step, more, walk}
+use Rattle.subelements.specs.Subelements.{lengthOf, bodyAt, pastFilter, walked, refusedWalk, past, wholeStep, subelementStep, moreSubelements, walk}
 
 -- what holds before each turn: not refused, the position bounds the count, and what is left of the walk gives what the whole walk gives
 pub record Walking (s : List ℕ) (known from end : ℕ) (w : Subelements) : Type 0 where
   pub sound : w .refusal ≡ noRefusal
   pub counted : w .count ≤ w .at
   pub five : length (w .filter) ≡ 5
-  pub rest : Rest (more end) (step s known end) (walk s known from end) (end - w .at) w
+  pub rest : Rest (moreSubelements end) (subelementStep s known end) (walk s known from end) (end - w .at) w
 
 pub walking-start : (s : List ℕ) (known from end : ℕ) → Walking s known from end (walked noRefusal from)
 unfolding walk
@@ -35,11 +35,11 @@ module _ {s : List ℕ} {known from end : ℕ} {w : Subelements} (i : Walking s 
   walking-end h = done (i .rest) (stop-end _ _ _ unrefused h)
 
   module _ (h : w .at < end) {next : ℕ} (e : next ≡ pieceEnd s (w .at) end) where
-    refuses : {r : Subelements} (n : ℕ) → 0 < n → r ≡ refusedWalk n (w .at) → refusedWalk n (w .at) ≡ step s known end w → r ≡ walk s known from end
+    refuses : {r : Subelements} (n : ℕ) → 0 < n → r ≡ refusedWalk n (w .at) → refusedWalk n (w .at) ≡ subelementStep s known end w → r ≡ walk s known from end
     refuses n p q f = q ∙ last (i .rest) (go-on _ _ _ unrefused h) (omega arith) f (stop-refused n 0 end (λ z. omega arith))
 
-    pub refused-edge : {r : Subelements} → next ≡ 0 → r ≡ refusedWalk subelement (w .at) → r ≡ walk s known from end
-    unfolding step if_then_else_
+    pub refused-edge : {r : Subelements} → next ≡ 0 → r ≡ refusedWalk badSubelement (w .at) → r ≡ walk s known from end
+    unfolding subelementStep if_then_else_
     refused-edge z q = refuses 7 (omega arith) q (rw (← e, eq-eqb next 0 z))
 
     module _ (z : next ≡ 0 → ⊥) where
@@ -52,7 +52,7 @@ module _ {s : List ℕ} {known from end : ℕ} {w : Subelements} (i : Walking s 
       pub within : {n : ℕ} → n ≡ getD s (w .at + 1) 0 → w .at + 2 + n ≤ end
       within m = omega (arith, m, ends .is, ends .within)
 
-      goes : (f : List Condition) → length f ≡ 5 → past w next f ≡ step s known end w
+      goes : (f : List Condition) → length f ≡ 5 → past w next f ≡ subelementStep s known end w
           → Walking s known from end (record { refusal = w .refusal; at = next; count = w .count + 1; filter = f })
       goes f l q =
           rw (i .sound)
@@ -60,22 +60,22 @@ module _ {s : List ℕ} {known from end : ℕ} {w : Subelements} (i : Walking s 
 
       module _ {id : ℕ} (d : id ≡ getD s (w .at) 0) where
         pub passed-over : known ≤ id → Walking s known from end (record { refusal = w .refusal; at = next; count = w .count + 1; filter = w .filter })
-        unfolding step wholeStep if_then_else_
+        unfolding subelementStep wholeStep if_then_else_
         passed-over k = goes (w .filter) (i .five) (rw (← e, ne-eqb next 0 z, ← d, le-leb known id k))
 
         module _ (k : id < known) {n : ℕ} (m : n ≡ getD s (w .at + 1) 0) where
-          pub refused-length : {r : Subelements} → (n ≡ lengthOf id → ⊥) → r ≡ refusedWalk subelement (w .at) → r ≡ walk s known from end
-          unfolding step wholeStep if_then_else_
+          pub refused-length : {r : Subelements} → (n ≡ lengthOf id → ⊥) → r ≡ refusedWalk badSubelement (w .at) → r ≡ walk s known from end
+          unfolding subelementStep wholeStep if_then_else_
           refused-length l q = refuses 7 (omega arith) q (rw (← e, ne-eqb next 0 z, ← d, lt-leb known id k, ← m, ne-eqb n (lengthOf id) l))
 
           module _ (l : n ≡ lengthOf id) where
             pub refused-repeat : {r : Subelements} → getD (w .filter) id pastFilter .present ≡ true → r ≡ refusedWalk repeatedSubelement (w .at) → r ≡ walk s known from end
-            unfolding step wholeStep if_then_else_
+            unfolding subelementStep wholeStep if_then_else_
             refused-repeat b q = refuses 8 (omega arith) q (rw (← e, ne-eqb next 0 z, ← d, lt-leb known id k, ← m, eq-eqb n (lengthOf id) l, b))
 
             pub held : {o : List ℕ} → getD (w .filter) id pastFilter .present ≡ false → o ≡ bodyAt s (w .at + 2) n
                 → Walking s known from end (record { refusal = w .refusal; at = next; count = w .count + 1; filter = set (w .filter) id (record { present = true; octets = o }) })
-            unfolding step wholeStep if_then_else_
+            unfolding subelementStep wholeStep if_then_else_
             held b q =
                 rw q (goes (set (w .filter) id _) (length-set (w .filter) id _ ∙ i .five) (rw (← e, ne-eqb next 0 z, ← d, lt-leb known id k, ← m, eq-eqb n (lengthOf id) l, b)))
 

@@ -10,7 +10,7 @@ use Rattle.laws.specs.Walk.{repeatWhile}
 use Rattle.octets.specs.declared.numbers.Kind.{Kind}
 use Rattle.octets.specs.declared.numbers.Kind.the-variants.{Event, Diagnostic}
 use Rattle.octets.specs.declared.refusals.Refusal.{Refusal}
-use Rattle.octets.specs.Refusals.{refused, noRefusal, subelement, repeatedSubelement}
+use Rattle.octets.specs.Refusals.{refused, noRefusal, badSubelement, repeatedSubelement}
 use Rattle.octets.specs.Elements.{pieceEnd}
 use Rattle.subelements.specs.declared.Condition.{Condition}
 use Rattle.subelements.specs.declared.Subelements.{Subelements}
@@ -58,18 +58,18 @@ wholeStep s known w next =
     let id = getD s (w .at) 0 in
     let n = getD s (w .at + 1) 0 in
     if leb known id then past w next (w .filter)
-    else if not (eqb n (lengthOf id)) then refusedWalk subelement (w .at)
+    else if not (eqb n (lengthOf id)) then refusedWalk badSubelement (w .at)
     else if getD (w .filter) id pastFilter .present then refusedWalk repeatedSubelement (w .at)
     else past w next (set (w .filter) id (record { present = true; octets = bodyAt s (w .at + 2) n }))
 
 -- the one at w .at: "Subelement passes the end" (7)
-unfoldable pub step : List ℕ → ℕ → ℕ → Subelements → Subelements
-step s known end w =
-    if eqb (pieceEnd s (w .at) end) 0 then refusedWalk subelement (w .at)
+unfoldable pub subelementStep : List ℕ → ℕ → ℕ → Subelements → Subelements
+subelementStep s known end w =
+    if eqb (pieceEnd s (w .at) end) 0 then refusedWalk badSubelement (w .at)
     else wholeStep s known w (pieceEnd s (w .at) end)
 
-abbrev pub more : ℕ → Subelements → Bool
-more end w = eqb (w .refusal .number) 0 && ltb (w .at) end
+abbrev pub moreSubelements : ℕ → Subelements → Bool
+moreSubelements end w = eqb (w .refusal .number) 0 && ltb (w .at) end
 
 -- how many IDs of the table are known: 5 for event type 0; a diagnostic's subelements are "walked for their edges only": 0
 abbrev pub knownOf : Kind → ℕ
@@ -78,4 +78,4 @@ knownOf Diagnostic = 0
 
 -- all from a position to the end, from the front; the first refusal stops
 unfoldable pub walk : List ℕ → ℕ → ℕ → ℕ → Subelements
-walk s known from end = repeatWhile end (more end) (step s known end) (walked noRefusal from)
+walk s known from end = repeatWhile end (moreSubelements end) (subelementStep s known end) (walked noRefusal from)

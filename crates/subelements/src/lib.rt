@@ -90,7 +90,7 @@ fn walk(s: &[u8], known: usize, from: usize, end: usize) -> Subelements
         let at = w.at;
         let next = piece_end(s, at, end);
         if next == 0 {
-            return refused(causes::SUBELEMENT, at);
+            return refused(causes::BAD_SUBELEMENT, at);
         }
         w.at = next;
         w.count += 1;
@@ -100,7 +100,7 @@ fn walk(s: &[u8], known: usize, from: usize, end: usize) -> Subelements
         }
         let n = size(s, at + 1);
         if n != length_of(id) {
-            return refused(causes::SUBELEMENT, at);
+            return refused(causes::BAD_SUBELEMENT, at);
         }
         let old = w.filter[id];
         if old.present {
@@ -141,7 +141,7 @@ pub fn walk_edges(s: &[u8], from: usize, end: usize) -> Subelements
     while at < end {
         let behind = piece_end(s, at, end);
         if behind == 0 {
-            return refused(causes::SUBELEMENT, at);
+            return refused(causes::BAD_SUBELEMENT, at);
         }
         count += 1;
         at = behind;

@@ -9,12 +9,12 @@ use borrow.Author.Tests.{eq-eqb, ne-eqb, lt-ltb}
 use Rattle.laws.specs.Choice.{if_then_else_}
 use Rattle.octets.specs.declared.numbers.Kind.{Kind}
 use Rattle.traces.specs.declared.elements.Elements.{Elements}
-use Rattle.traces.specs.Places.{behind}
-use Rattle.traces.specs.Elements.{conditionEnd, conditionsEnd, elementAt, withElement, moreElements}
+use Rattle.traces.specs.Places.{placeBehindRecord}
+use Rattle.traces.specs.Elements.{conditionEnd, conditionsEnd, tracedElementAt, withTraced, moreElements}
 
 -- nothing ends past the end of the input
-pub behind-past : (s : List ℕ) (at n : ℕ) → length s < at + n → behind s at n ≡ 0
-unfolding behind if_then_else_
+pub behind-past : (s : List ℕ) (at n : ℕ) → length s < at + n → placeBehindRecord s at n ≡ 0
+unfolding placeBehindRecord if_then_else_
 behind-past s zero n h = refl
 behind-past s (suc at) n h = rw (ne-eqb (suc at) 0 (λ (e : suc at ≡ 0). omega arith), lt-ltb (length s) (suc at + n) h)
 
@@ -32,7 +32,7 @@ unfolding conditionsEnd
 conditions-done s n at least z = rw z
 
 module _ (s : List ℕ) (kind : Kind) (n i : ℕ) (w : Elements) where
-  pub elements-next : (k : ℕ) → n ≡ suc k → moreElements s kind n i w ≡ moreElements s kind k (i + 1) (withElement w i (elementAt s kind (w .end)))
+  pub elements-next : (k : ℕ) → n ≡ suc k → moreElements s kind n i w ≡ moreElements s kind k (i + 1) (withTraced w i (tracedElementAt s kind (w .end)))
   unfolding moreElements
   elements-next k e = rw e
 

@@ -17,17 +17,17 @@ use Rattle.subelements.specs.Subelements.{noFilter, walk}
 use Rattle.requests.specs.declared.Element.{Element}
 use Rattle.traces.specs.declared.elements.Recorded.{Recorded}
 use Rattle.traces.specs.declared.elements.Elements.{Elements}
-use Rattle.traces.specs.Places.{behind}
+use Rattle.traces.specs.Places.{placeBehindRecord}
 
 -- kind 0 and action 0 are an event's
-abbrev pub kindOf : ℕ → Kind
-kindOf n = if eqb n 0 then Event else Diagnostic
+abbrev pub tracedKind : ℕ → Kind
+tracedKind n = if eqb n 0 then Event else Diagnostic
 
-abbrev pub noElement : Element
-noElement = record { token = 0; ty = 0; limit = 0; subs = 0; timeout = 0; filter = noFilter }
+abbrev pub blankTraced : Element
+blankTraced = record { token = 0; ty = 0; limit = 0; subs = 0; timeout = 0; filter = noFilter }
 
 abbrev pub refusedElement : Recorded
-refusedElement = record { end = 0; element = noElement }
+refusedElement = record { end = 0; element = blankTraced }
 
 -- a condition: its ID is not below the least one, and is one of document 01's
 unfoldable pub conditionEnd : List ℕ → ℕ → ℕ → ℕ
@@ -57,8 +57,8 @@ timeoutOf Event value = 0
 timeoutOf Diagnostic value = value
 
 -- the element whose conditions stand from a position to its end
-abbrev pub elementOf : List ℕ → Kind → ℕ → List Condition → Element
-elementOf s kind at filter =
+abbrev pub tracedElement : List ℕ → Kind → ℕ → List Condition → Element
+tracedElement s kind at filter =
     record {
       token = getD s at 0;
       ty = getD s (at + 1) 0;
@@ -73,31 +73,31 @@ unfoldable pub walkedElement : List ℕ → Kind → ℕ → ℕ → Subelements
 walkedElement s kind at end w =
     if eqb end 0 then refusedElement
     else if not (eqb (w .refusal .number) 0) then refusedElement
-    else record { end = end; element = elementOf s kind at (w .filter) }
+    else record { end = end; element = tracedElement s kind at (w .filter) }
 
-unfoldable pub elementAt : List ℕ → Kind → ℕ → Recorded
-elementAt s kind at =
-    let from = behind s at 5 in
+unfoldable pub tracedElementAt : List ℕ → Kind → ℕ → Recorded
+tracedElementAt s kind at =
+    let from = placeBehindRecord s at 5 in
     let end = conditionsEnd s (getD s (at + 4) 0) from 0 in
     if eqb from 0 then refusedElement
     else if badValue kind (pairAt s (at + 2)) then refusedElement
     else walkedElement s kind at end (walk s 5 from end)
 
 -- one more, kept where it is one of the first eight
-unfoldable pub withElement : Elements → ℕ → Recorded → Elements
-withElement w i r = record { end = r .end; elements = set (w .elements) i (r .element) }
+unfoldable pub withTraced : Elements → ℕ → Recorded → Elements
+withTraced w i r = record { end = r .end; elements = set (w .elements) i (r .element) }
 
 -- so many, behind the first i
 unfoldable pub moreElements : List ℕ → Kind → ℕ → ℕ → Elements → Elements
 moreElements s kind zero i w = w
-moreElements s kind (suc k) i w = moreElements s kind k (i + 1) (withElement w i (elementAt s kind (w .end)))
+moreElements s kind (suc k) i w = moreElements s kind k (i + 1) (withTraced w i (tracedElementAt s kind (w .end)))
 
-abbrev pub started : ℕ → Elements
-started from =
+abbrev pub startedTrace : ℕ → Elements
+startedTrace from =
     record {
       end = from;
-      elements = noElement ∷ noElement ∷ noElement ∷ noElement ∷ noElement ∷ noElement ∷ noElement ∷ noElement ∷ [];
+      elements = blankTraced ∷ blankTraced ∷ blankTraced ∷ blankTraced ∷ blankTraced ∷ blankTraced ∷ blankTraced ∷ blankTraced ∷ [];
     }
 
 abbrev pub elementsAt : List ℕ → Kind → ℕ → ℕ → Elements
-elementsAt s kind count from = moreElements s kind count 0 (started from)
+elementsAt s kind count from = moreElements s kind count 0 (startedTrace from)

@@ -9,8 +9,8 @@ use Rattle.laws.specs.Choice.{if_then_else_}
 use Rattle.octets.specs.Fields.{pairAt}
 
 -- so many octets from a position on; they do not pass the end of the input
-unfoldable pub behind : List ℕ → ℕ → ℕ → ℕ
-behind s at n =
+unfoldable pub placeBehindRecord : List ℕ → ℕ → ℕ → ℕ
+placeBehindRecord s at n =
     if eqb at 0 then 0
     else if ltb (length s) (at + n) then 0
     else at + n
@@ -21,8 +21,8 @@ badLength s at = ltb 4096 (pairAt s at)
 
 -- "length (2), octets"
 unfoldable pub octetsEnd : List ℕ → ℕ → ℕ
-octetsEnd s at = if badLength s at then 0 else behind s (behind s at 2) (pairAt s at)
+octetsEnd s at = if badLength s at then 0 else placeBehindRecord s (placeBehindRecord s at 2) (pairAt s at)
 
 -- "number of addresses (1), addresses (6 each)"
 unfoldable pub listEnd : List ℕ → ℕ → ℕ
-listEnd s at = behind s (behind s at 1) (6 * getD s at 0)
+listEnd s at = placeBehindRecord s (placeBehindRecord s at 1) (6 * getD s at 0)

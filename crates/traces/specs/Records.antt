@@ -16,8 +16,8 @@ use Rattle.traces.specs.declared.calls.ReportCall.{ReportCall}
 use Rattle.traces.specs.declared.calls.MoveCall.{MoveCall}
 use Rattle.traces.specs.declared.calls.WriterCall.{WriterCall}
 use Rattle.traces.specs.declared.calls.ReaderCall.{ReaderCall}
-use Rattle.traces.specs.Places.{behind, badLength, octetsEnd, listEnd}
-use Rattle.traces.specs.Elements.{kindOf, elementsAt}
+use Rattle.traces.specs.Places.{placeBehindRecord, badLength, octetsEnd, listEnd}
+use Rattle.traces.specs.Elements.{tracedKind, elementsAt}
 
 -- ---- where a record's fields end; 0: refused
 
@@ -26,7 +26,7 @@ unfoldable pub reportCallEnd : List ℕ → ℕ → ℕ
 reportCallEnd s at =
     if ltb 1 (getD s (at + 10) 0) then 0
     else if badLength s (at + 11) then 0
-    else behind s at 14
+    else placeBehindRecord s at 14
 
 -- "action (1: 0 or 2)"
 abbrev pub goodAction : ℕ → Bool
@@ -37,7 +37,7 @@ unfoldable pub writerCallEnd : List ℕ → ℕ → ℕ
 writerCallEnd s at =
     if badLength s at then 0
     else if not (goodAction (getD s (at + 3) 0)) then 0
-    else elementsAt s (kindOf (getD s (at + 3) 0)) (getD s (at + 5) 0) (behind s at 6) .end
+    else elementsAt s (tracedKind (getD s (at + 3) 0)) (getD s (at + 5) 0) (placeBehindRecord s at 6) .end
 
 -- the fields of a record of a number, from a position on
 unfoldable pub fieldsEnd : List ℕ → ℕ → ℕ → ℕ
@@ -45,18 +45,18 @@ fieldsEnd s number at =
     -- "`00` setup: identity length (2), identity, number of addresses (1), addresses (6 each)"
     if eqb number 0 then listEnd s (octetsEnd s at)
     -- "`01` clock: reading (4)"
-    else if eqb number 1 then behind s at 4
+    else if eqb number 1 then placeBehindRecord s at 4
     -- "`02` logging: reading (4), time (9), source (6), target (6), reason (1), result (2), .. (1 each), departure (4)"
-    else if eqb number 2 then behind s at 36
+    else if eqb number 2 then placeBehindRecord s at 36
     -- "`03` frame call: reading (4), destination (6), source (6), length (2), octets"
-    else if eqb number 3 then octetsEnd s (behind s at 16)
+    else if eqb number 3 then octetsEnd s (placeBehindRecord s at 16)
     else if eqb number 4 then reportCallEnd s at
     -- "`05` move, `06` network change: reading (4), number of addresses (1), addresses"
-    else if eqb number 5 then listEnd s (behind s at 4)
-    else if eqb number 6 then listEnd s (behind s at 4)
+    else if eqb number 5 then listEnd s (placeBehindRecord s at 4)
+    else if eqb number 6 then listEnd s (placeBehindRecord s at 4)
     else if eqb number 16 then writerCallEnd s at
     -- "`11` report reader: destination (6), length (2), octets"
-    else if eqb number 17 then octetsEnd s (behind s at 6)
+    else if eqb number 17 then octetsEnd s (placeBehindRecord s at 6)
     else 0
 
 -- "A record that is cut, unknown, or has a field out of the range": 0
@@ -118,7 +118,7 @@ reportFields s at =
     record {
       reading = millisecondsAt s at;
       requester = addressAt s (at + 4);
-      kind = kindOf (getD s (at + 10) 0);
+      kind = tracedKind (getD s (at + 10) 0);
       length = pairAt s (at + 11);
       fill = getD s (at + 13) 0;
     }
@@ -131,7 +131,7 @@ writerFields s at =
     record {
       length = pairAt s at;
       fill = getD s (at + 2) 0;
-      kind = kindOf (getD s (at + 3) 0);
+      kind = tracedKind (getD s (at + 3) 0);
       dialog = getD s (at + 4) 0;
       count = getD s (at + 5) 0;
       elements = at + 6;

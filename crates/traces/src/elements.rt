@@ -10,7 +10,7 @@ use subelements::Condition;
 use subelements::walk_request;
 ghost use mathlib.Core.Path.{_≡_};
 ghost use lib.ListN.{set};
-ghost use Rattle.traces.specs.Elements.{kindOf, noElement, refusedElement, conditionEnd, conditionsEnd, badValue, limitOf, timeoutOf, elementAt, withElement, elementsAt};
+ghost use Rattle.traces.specs.Elements.{tracedKind, blankTraced, refusedElement, conditionEnd, conditionsEnd, badValue, limitOf, timeoutOf, tracedElementAt, withTraced, elementsAt};
 
 // One element, and where it ends; 0: refused.
 pub struct Recorded {
@@ -26,7 +26,7 @@ pub struct Elements {
 
 // Kind 0 and action 0 are an event's.
 pub fn kind_of(number: u8) -> Kind
-    ensures { λ r. ⌜ r ≡ kindOf number ⌝ }
+    ensures { λ r. ⌜ r ≡ tracedKind number ⌝ }
 {
     if number == 0 {
         return Kind::Event;
@@ -35,7 +35,7 @@ pub fn kind_of(number: u8) -> Kind
 }
 
 fn no_element() -> Element
-    ensures { λ r. ⌜ r ≡ noElement ⌝ }
+    ensures { λ r. ⌜ r ≡ blankTraced ⌝ }
 {
     Element {
         token: 0,
@@ -122,7 +122,7 @@ fn timeout_of(kind: Kind, value: u16) -> u16
 
 // The element at a position: token, type, limit or timeout, conditions.
 fn element_at(s: &[u8], kind: Kind, at: usize) -> Recorded
-    ensures { λ r. ⌜ r ≡ elementAt (now (s .entry)) kind at ⌝ }
+    ensures { λ r. ⌜ r ≡ tracedElementAt (now (s .entry)) kind at ⌝ }
 {
     if s.len() <= at {
         return refused();
@@ -171,7 +171,7 @@ fn keep(elements: [Element; 8], i: u8, element: Element) -> [Element; 8]
 }
 
 fn with_element(w: Elements, i: u8, r: Recorded) -> Elements
-    ensures { λ n. ⌜ n ≡ withElement w i r ⌝ }
+    ensures { λ n. ⌜ n ≡ withTraced w i r ⌝ }
 {
     let elements = w.elements;
     let element = r.element;

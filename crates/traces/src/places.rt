@@ -7,7 +7,7 @@ use octets::size;
 ghost use mathlib.Core.Path.{_≡_};
 ghost use Prim.Native.Nat.{_+_, _≤_, _<_};
 ghost use lib.ListN.{length};
-ghost use Rattle.traces.specs.Places.{behind as Places·behind, badLength, octetsEnd, listEnd};
+ghost use Rattle.traces.specs.Places.{placeBehindRecord as Places·behind, badLength, octetsEnd, listEnd};
 ghost use Rattle.traces.specs.Records.{reportCallEnd, goodAction, writerCallEnd, fieldsEnd, recordEnd};
 
 // No length in a record is over this.

@@ -1,7 +1,7 @@
 -- `report_reader::element_at` meets its contract.
 -- Assumes nothing.
 use native.Mathlib.Omega.{arith}
-use Rattle.report_reader.specs.Internal.{elementAt}
+use Rattle.report_reader.specs.Internal.{foundElement}
 use borrow.Author.Needs.{needs}
 use Rattle.report_reader.proofs.element_at.Statement.{statement}
 use Rattle.report_reader.proofs.element_at.Tie as tie
@@ -37,7 +37,7 @@ transition-at-requires : tie.Need-transition-at-requires
 transition-at-requires c κs e = let h = c .before .before .before .before .before .pre .event e in omega arith
 
 returns : tie.Need-returns
-unfolding elementAt
+unfolding foundElement
 returns c = rw (c .transition-at .ensures)
 
 pub element-at-spec : {M : Type 1} → statement M

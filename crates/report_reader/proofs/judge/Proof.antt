@@ -5,14 +5,14 @@ use mathlib.Core.Path.{_≡_, refl}
 use native.Mathlib.Omega.{arith}
 use lib.ListN.{length}
 use Rattle.laws.proofs.Walk.{Rest, start, last, again, done, go-on, stop-refused, stop-end}
-use Rattle.report_reader.specs.Reader.{more, judgeStep, judge}
+use Rattle.report_reader.specs.Reader.{moreReports, judgeStep, judge}
 use Rattle.report_reader.proofs.Laws.{moved}
 use borrow.Author.Needs.{needs}
 use Rattle.report_reader.proofs.judge.Statement.{statement}
 use Rattle.report_reader.proofs.judge.Tie as tie
 
 abbrev Inv-loop : tie.InvT-loop
-Inv-loop s kind w₀ w = (w .refusal .number ≡ 0) × (w .count ≤ w .at) × Rest (more (length s)) (judgeStep s kind) (judge s kind) (length s - w .at) w
+Inv-loop s kind w₀ w = (w .refusal .number ≡ 0) × (w .count ≤ w .at) × Rest (moreReports (length s)) (judgeStep s kind) (judge s kind) (length s - w .at) w
 
 abbrev μ-loop : tie.MeasureT-loop
 μ-loop s kind w₀ w = length s - w .at

@@ -2,7 +2,7 @@
 -- Assumes nothing.
 use borrow.Author.Tests.{lt-ltb, le-ltb}
 use Rattle.laws.specs.Choice.{if_then_else_}
-use Rattle.report_reader.specs.Reader.{ownStep}
+use Rattle.report_reader.specs.Reader.{ownReportStep}
 use borrow.Author.Needs.{needs}
 use Rattle.report_reader.proofs.judge_own.Statement.{statement}
 use Rattle.report_reader.proofs.judge_own.Tie as tie
@@ -11,7 +11,7 @@ refused-requires : tie.Need-refused-requires
 refused-requires c κs = search needs
 
 returns : tie.Need-returns
-unfolding ownStep if_then_else_
+unfolding ownReportStep if_then_else_
 returns c = rw (lt-ltb _ 3 (c .before .if1 .taken)) (c .refused .ensures)
 
 add-if2 : tie.Need-add-if2
@@ -24,7 +24,7 @@ refused-requires-2 : tie.Need-refused-requires-2
 refused-requires-2 c κs = search needs
 
 returns-2 : tie.Need-returns-2
-unfolding ownStep if_then_else_
+unfolding ownReportStep if_then_else_
 returns-2 c = rw (le-ltb _ 3 (c .before .before .before .if1 .left), lt-ltb 4 _ (c .before .if2 .taken)) (c .refused2 .ensures)
 
 enum-told : tie.Need-enum-told
@@ -40,11 +40,11 @@ judge-diagnostic-requires : tie.Need-judge-diagnostic-requires
 judge-diagnostic-requires c κs = search needs
 
 returns-3 : tie.Need-returns-3
-unfolding ownStep if_then_else_
+unfolding ownReportStep if_then_else_
 returns-3 c = rw (le-ltb _ 3 (c .before .before .before .before .before .if1 .left), le-ltb 4 _ (c .before .before .before .if2 .left), c .before .enum-told .given .1) (c .judge-event .ensures)
 
 returns-4 : tie.Need-returns-4
-unfolding ownStep if_then_else_
+unfolding ownReportStep if_then_else_
 returns-4 c = rw (le-ltb _ 3 (c .before .before .before .before .before .if1 .left), le-ltb 4 _ (c .before .before .before .if2 .left), c .before .enum-told2 .given .1) (c .judge-diagnostic .ensures (c .before .before .before .before .before .before .before .args .n) (c .before .before .before .before .before .before .before .pre .0))
 
 pub judge-own-spec : {M : Type 1} → statement M

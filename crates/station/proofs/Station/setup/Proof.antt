@@ -3,7 +3,7 @@
 use mathlib.Core.Path.{sym, ap, _∙_}
 use mathlib.Core.List.{[]}
 use borrow.Author.Tests.{not-true, not-false}
-use Rattle.octets.specs.Refusals.{requesterList, identity}
+use Rattle.octets.specs.Refusals.{badRequesterList, badIdentity}
 use Rattle.model.specs.Model.{Station, accepted}
 use Rattle.model.specs.Stations.{result, refusedFor}
 use Rattle.station.specs.Internal.{acceptedOutcome}
@@ -24,7 +24,7 @@ refused-with-requires c κs = search needs
 returns : tie.Need-returns
 returns c =
     let a = c .before .before .before .before .before .args in (
-      c .refused-with .ensures [] ∙ ap (λ (g : Station). result g (refusedFor requesterList) []) (c .before .nobody .ensures)
+      c .refused-with .ensures [] ∙ ap (λ (g : Station). result g (refusedFor badRequesterList) []) (c .before .nobody .ensures)
           ∙ setup-bad-list (a .identity .now) (a .list .now) (sym (c .before .before .before .bad-list .ensures) ∙ c .before .before .if1 .taken),
       refused-leaves _ _ _ _ (c .refused-with .ensures []),
     )
@@ -41,7 +41,7 @@ refused-with-requires-2 c κs = search needs
 returns-2 : tie.Need-returns-2
 returns-2 c =
     let a = c .before .before .before .before .before .before .before .args in (
-      c .refused-with2 .ensures [] ∙ ap (λ (g : Station). result g (refusedFor identity) []) (c .before .nobody2 .ensures)
+      c .refused-with2 .ensures [] ∙ ap (λ (g : Station). result g (refusedFor badIdentity) []) (c .before .nobody2 .ensures)
           ∙ setup-bad-identity (a .identity .now) (a .list .now) (sym (c .before .before .before .before .before .bad-list .ensures) ∙ c .before .before .before .before .if1 .left) (sym (c .before .before .before .good-identity .ensures) ∙ not-true _ (c .before .before .if2 .taken)),
       refused-leaves _ _ _ _ (c .refused-with2 .ensures []),
     )

@@ -3,16 +3,16 @@
 use borrow.Author.Tests.{eq-eqb, ne-eqb}
 use Rattle.laws.specs.Choice.{if_then_else_}
 use Rattle.requesters.specs.Views.{viewAnswer}
-use Rattle.station.specs.Internal.{frameAnswer}
+use Rattle.station.specs.Internal.{answerToFrame}
 use Rattle.station.proofs.frames.answer_of.Statement.{statement}
 use Rattle.station.proofs.frames.answer_of.Tie as tie
 
 returns : tie.Need-returns
-unfolding frameAnswer viewAnswer if_then_else_
+unfolding answerToFrame viewAnswer if_then_else_
 returns c = rw (ne-eqb _ _ (c .if1 .taken))
 
 returns-2 : tie.Need-returns-2
-unfolding frameAnswer viewAnswer if_then_else_
+unfolding answerToFrame viewAnswer if_then_else_
 returns-2 c = rw (eq-eqb _ _ (c .if1 .left))
 
 pub answer-of-spec : {M : Type 1} → statement M

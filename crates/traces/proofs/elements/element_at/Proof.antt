@@ -3,7 +3,7 @@
 use native.Mathlib.Omega.{arith}
 use borrow.Author.Tests.{eq-eqb, ne-eqb}
 use Rattle.laws.specs.Choice.{if_then_else_}
-use Rattle.traces.specs.Elements.{elementAt, walkedElement}
+use Rattle.traces.specs.Elements.{tracedElementAt, walkedElement}
 use Rattle.traces.proofs.WalkLaws.{behind-past}
 use borrow.Author.Needs.{needs}
 use Rattle.traces.proofs.elements.element_at.Statement.{statement}
@@ -13,7 +13,7 @@ refused-requires : tie.Need-refused-requires
 refused-requires c κs = search needs
 
 returns : tie.Need-returns
-unfolding elementAt walkedElement if_then_else_
+unfolding tracedElementAt walkedElement if_then_else_
 returns c = let a = c .before .before .before .args in rw (behind-past (a .s .now) (a .at) 5 (omega arith)) (c .refused .ensures)
 
 behind-requires : tie.Need-behind-requires
@@ -23,7 +23,7 @@ refused-requires-2 : tie.Need-refused-requires-2
 refused-requires-2 c κs = search needs
 
 returns-2 : tie.Need-returns-2
-unfolding elementAt walkedElement if_then_else_
+unfolding tracedElementAt walkedElement if_then_else_
 returns-2 c = rw (← c .before .before .behind .ensures, eq-eqb _ 0 (c .before .if2 .taken)) (c .refused2 .ensures)
 
 add-pair-at : tie.Need-add-pair-at
@@ -39,7 +39,7 @@ refused-requires-3 : tie.Need-refused-requires-3
 refused-requires-3 c κs = search needs
 
 returns-3 : tie.Need-returns-3
-unfolding elementAt walkedElement if_then_else_
+unfolding tracedElementAt walkedElement if_then_else_
 returns-3 c =
     rw (← c .before .before .before .before .before .behind .ensures, ne-eqb _ 0 (c .before .before .before .before .if2 .left), ← c .before .before .before .pair-at .ensures, ← c .before .before .bad-value .ensures, c .before .if3 .taken) (c .refused3 .ensures)
 
@@ -56,7 +56,7 @@ refused-requires-4 : tie.Need-refused-requires-4
 refused-requires-4 c κs = search needs
 
 returns-4 : tie.Need-returns-4
-unfolding elementAt walkedElement if_then_else_
+unfolding tracedElementAt walkedElement if_then_else_
 returns-4 c =
     rw (← c .before .before .before .before .before .before .before .before .behind .ensures, ne-eqb _ 0 (c .before .before .before .before .before .before .before .if2 .left), ← c .before .before .before .before .before .before .pair-at .ensures, ← c .before .before .before .before .before .bad-value .ensures, c .before .before .before .before .if3 .left, ← c .before .before .before .octet .ensures, ← c .before .before .conditions-end .ensures, eq-eqb _ 0 (c .before .if4 .taken)) (c .refused4 .ensures)
 
@@ -67,7 +67,7 @@ refused-requires-5 : tie.Need-refused-requires-5
 refused-requires-5 c κs = search needs
 
 returns-5 : tie.Need-returns-5
-unfolding elementAt walkedElement if_then_else_
+unfolding tracedElementAt walkedElement if_then_else_
 returns-5 c =
     rw (← c .before .before .before .before .before .before .before .before .before .before .before .behind .ensures, ne-eqb _ 0 (c .before .before .before .before .before .before .before .before .before .before .if2 .left), ← c .before .before .before .before .before .before .before .before .before .pair-at .ensures, ← c .before .before .before .before .before .before .before .before .bad-value .ensures, c .before .before .before .before .before .before .before .if3 .left, ← c .before .before .before .before .before .before .octet .ensures, ← c .before .before .before .before .before .conditions-end .ensures, ne-eqb _ 0 (c .before .before .before .before .if4 .left), ← c .before .before .before .walk-request .ensures, ne-eqb _ 0 (c .before .if5 .taken)) (c .refused5 .ensures)
 
@@ -87,7 +87,7 @@ timeout-of-requires : tie.Need-timeout-of-requires
 timeout-of-requires c κs = search needs
 
 returns-6 : tie.Need-returns-6
-unfolding elementAt walkedElement if_then_else_
+unfolding tracedElementAt walkedElement if_then_else_
 returns-6 c =
     rw (← c .before .before .before .before .before .before .before .before .before .before .before .before .before .before .before .behind .ensures, ne-eqb _ 0 (c .before .before .before .before .before .before .before .before .before .before .before .before .before .before .if2 .left), ← c .before .before .before .before .before .before .before .before .before .before .before .before .before .pair-at .ensures, ← c .before .before .before .before .before .before .before .before .before .before .before .before .bad-value .ensures, c .before .before .before .before .before .before .before .before .before .before .before .if3 .left, ← c .before .before .before .before .before .before .before .before .before .before .octet .ensures, ← c .before .before .before .before .before .before .before .before .before .conditions-end .ensures, ne-eqb _ 0 (c .before .before .before .before .before .before .before .before .if4 .left), ← c .before .before .before .before .before .before .before .walk-request .ensures, eq-eqb _ 0 (c .before .before .before .before .before .if5 .left), ← c .before .before .before .octet2 .ensures, ← c .before .before .octet3 .ensures, ← c .before .limit-of .ensures, ← c .timeout-of .ensures)
 

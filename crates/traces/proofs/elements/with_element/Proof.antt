@@ -1,6 +1,6 @@
 -- `traces::elements::with_element` meets its contract.
 -- Assumes nothing.
-use Rattle.traces.specs.Elements.{withElement}
+use Rattle.traces.specs.Elements.{withTraced}
 use borrow.Author.Needs.{needs}
 use Rattle.traces.proofs.elements.with_element.Statement.{statement}
 use Rattle.traces.proofs.elements.with_element.Tie as tie
@@ -9,7 +9,7 @@ keep-requires : tie.Need-keep-requires
 keep-requires c κs = search needs
 
 returns : tie.Need-returns
-unfolding withElement
+unfolding withTraced
 returns c = rw (c .keep .ensures)
 
 pub with-element-spec : {M : Type 1} → statement M

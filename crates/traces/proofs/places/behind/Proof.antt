@@ -5,17 +5,17 @@ use lib.ListN.{length}
 use native.Mathlib.Omega.{arith}
 use borrow.Author.Tests.{eq-eqb, ne-eqb, lt-ltb, le-ltb}
 use Rattle.laws.specs.Choice.{if_then_else_}
-use Rattle.traces.specs.Places.{behind}
+use Rattle.traces.specs.Places.{placeBehindRecord}
 use borrow.Author.Needs.{needs}
 use Rattle.traces.proofs.places.behind.Statement.{statement}
 use Rattle.traces.proofs.places.behind.Tie as tie
 
 returns : tie.Need-returns
-unfolding behind if_then_else_
+unfolding placeBehindRecord if_then_else_
 returns c = rw (eq-eqb _ 0 (c .if1 .taken))
 
 returns-2 : tie.Need-returns-2
-unfolding behind if_then_else_
+unfolding placeBehindRecord if_then_else_
 returns-2 c =
     let a = c .before .before .args in rw (ne-eqb (a .at) 0 (c .before .if1 .left), lt-ltb (length (a .s .now)) (a .at + a .n) (omega arith))
 
@@ -23,7 +23,7 @@ sub-if3 : tie.Need-sub-if3
 sub-if3 c = search needs
 
 returns-3 : tie.Need-returns-3
-unfolding behind if_then_else_
+unfolding placeBehindRecord if_then_else_
 returns-3 c =
     let a = c .before .before .before .args in rw (ne-eqb (a .at) 0 (c .before .before .if1 .left), lt-ltb (length (a .s .now)) (a .at + a .n) (omega arith))
 
@@ -31,7 +31,7 @@ add-result : tie.Need-add-result
 add-result c = search needs
 
 returns-4 : tie.Need-returns-4
-unfolding behind if_then_else_
+unfolding placeBehindRecord if_then_else_
 returns-4 c =
     let a = c .before .before .before .args in rw (ne-eqb (a .at) 0 (c .before .before .if1 .left), le-ltb (length (a .s .now)) (a .at + a .n) (omega arith))
 
