@@ -55,7 +55,7 @@ fn put_diagnostic(x: Diagnostic, identity: &[u8; 252], len: usize, buf: &mut [u8
 }
 
 // Elements one behind the other, while each fits.
-pub fn fill_diagnostics(
+pub(crate) fn fill_diagnostics(
     d: DiagnosticRequest,
     identity: &[u8; 252],
     len: usize,
