@@ -104,13 +104,20 @@ module _ {A : Type 0} (l : List A) (m end : ℕ) (e : length l ≡ m) (n : ℕ) 
   pub length-within : length (take end l) ≡ end
   length-within = length-take end l ∙ omega arith
 
--- one more place of an array that takes what f makes of another's
-pub fill-mapped : {A B : Type 0} (f : A → B) (from : List A) (to : List B) (i : ℕ) (d : A) (y : B) → i < length from → i < length to
-    → take i to ≡ map f (take i from) → y ≡ f (getD from i d) → take (i + 1) (set to i y) ≡ map f (take (i + 1) from)
-fill-mapped f from to i d y h k e q =
-    rw (add-one, take-suc-set to i y k, take-suc from i d h, map-append f (take i from) (getD from i d ∷ []), e, q)
+-- an array that is filled from the front of a blank one with what f makes of a list's (a column of an array of structs)
 
--- the same from the back, where nothing is left behind the first n of n
+module _ {A B : Type 0} (f : A → B) (l : List A) (blank xs : List B) where
+  pub column-next : (i : ℕ) (d : A) → i < length l → i < length blank → xs ≡ map f (take i l) ++ drop i blank
+      → set xs i (f (getD l i d)) ≡ map f (take (i + 1) l) ++ drop (i + 1) blank
+  column-next i d h k e =
+      let n : length (map f (take i l)) ≡ i = length-map (take i l) f ∙ length-take i l ∙ omega arith in
+      rw (e, add-one, take-suc l i d h, map-append f (take i l) (getD l i d ∷ []))
+      (fill-next (map f (take i l)) blank (f d) i n k (f (getD l i d)))
+
+  pub column-all : (n : ℕ) → length l ≡ n → length blank ≡ n → xs ≡ map f (take n l) ++ drop n blank → xs ≡ map f l
+  column-all n p q e = e ∙ rw (take-all n l (omega arith), drop-of-length-le blank {i = n} (omega arith)) (append-nil (map f l))
+
+-- one that is filled from the back: nothing is left behind the first n of n
 pub fill-none : {A : Type 0} (n : ℕ) (l : List A) → drop n (take n l) ≡ []
 fill-none n l = drop-of-length-le (take n l) {i = n} (omega (arith, length-take n l))
 

@@ -30,12 +30,6 @@ reportId Diagnostic = 81
 abbrev pub successful : ℕ
 successful = 0
 
-abbrev pub fail : ℕ
-fail = 1
-
-abbrev pub refusedStatus : ℕ
-refusedStatus = 2
-
 abbrev pub incapable : ℕ
 incapable = 3
 

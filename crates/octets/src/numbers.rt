@@ -12,12 +12,8 @@ pub const REPORT_BUFFER: usize = 260;
 
 pub const REQUEST_BUFFER: usize = 267;
 
-// The statuses of a report; Cancelled is the last.
+// The statuses of a report that the code speaks of; Cancelled is the last.
 pub const SUCCESSFUL: u8 = 0;
-
-pub const FAIL: u8 = 1;
-
-pub const REFUSED_STATUS: u8 = 2;
 
 pub const INCAPABLE: u8 = 3;
 
