@@ -1,15 +1,14 @@
 // The bare clock reading, which every call begins with.
 use crate::Outcome;
 use crate::Station;
+use crate::outcomes::accepted_with;
 use crate::requester_lists::tick_requesters;
 use units::Milliseconds;
 ghost use mathlib.Core.Path.{_≡_};
 ghost use mathlib.Core.List.{[]};
-ghost use lib.ListN.{length};
 ghost use Rattle.model.specs.Model.{standard, clock};
 ghost use Rattle.model.specs.Stations.{tick as Stations·tick, step};
 ghost use Rattle.station.specs.Views.{view, viewOutcome};
-use crate::outcomes::accepted_with;
 
 // The late drop.
 pub(crate) fn ticked(g: Station, reading: Milliseconds) -> Station

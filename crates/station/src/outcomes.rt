@@ -9,7 +9,7 @@ use requesters::Served;
 ghost use mathlib.Core.Path.{_≡_};
 ghost use mathlib.Core.List.{List, map};
 ghost use Prim.Native.Nat.{ℕ};
-ghost use lib.ListN.{length, take};
+ghost use lib.ListN.{take};
 ghost use Rattle.requesters.specs.Views.{viewRequester, viewAnswer, viewServed};
 ghost use Rattle.model.specs.Stations.{result, refusedFor, served};
 ghost use Rattle.station.specs.Internal.{acceptedOutcome};

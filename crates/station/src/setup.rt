@@ -1,21 +1,21 @@
 // Setup.
 use crate::Outcome;
 use crate::Station;
+use crate::outcomes::accepted_with;
+use crate::outcomes::refused_with;
 use crate::requester_lists::bad_list;
 use crate::requester_lists::named_requesters;
 use events::blank_log;
 use identities::good_identity;
 use octets::causes;
-ghost use Rattle.model.specs.Model.{standard};
 ghost use mathlib.Core.Path.{_≡_};
 ghost use mathlib.Core.List.{[]};
 ghost use Prim.Native.Nat.{_≤_};
 ghost use lib.ListN.{length};
+ghost use Rattle.model.specs.Model.{standard};
 ghost use Rattle.model.specs.Stations.{nobody as Stations·nobody, setup as Stations·setup};
 ghost use Rattle.station.specs.Memory.{setupStation, Leaves};
 ghost use Rattle.station.specs.Views.{view, viewOutcome};
-use crate::outcomes::accepted_with;
-use crate::outcomes::refused_with;
 
 // The station without identity, log and requesters.
 fn nobody() -> Station
