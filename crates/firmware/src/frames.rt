@@ -95,7 +95,8 @@ fn found_step(element: Element, rest: usize, next: usize) -> Step
 }
 
 // What stands at a position of a report frame of a kind; the first element stands at 3. One with a
-// transition has a return of its own, for speed: its octets are then moved by wide copies.
+// transition has a return of its own, for speed: merged with the zeros of the others, its octets go
+// through the stack.
 #[no_mangle]
 pub extern "C" fn dultxibe_next_element(kind: u8, at: usize, s: &[u8]) -> Step
     ensures { λ r. ⌜ r ≡ numberedStep (stepAt (now (s .entry)) (kindOf kind) at) ⌝ }
