@@ -1,9 +1,9 @@
 /* Dultxibe: event and diagnostic reporting (IEEE 802.11v) of a timing gate, for C.
  *
  * The functions are proved Rattle code (crates/firmware); link libfirmware.a. This file is written
- * by hand, and nothing proves it: the assertions at its end hold it to the sizes and offsets of the
- * archive, and examples/check reads the size of a station from the archive. It is for x86-64 (System
- * V), and needs C11.
+ * by hand, and nothing proves it: examples/check holds a station's size to the archive, and the
+ * assertions at the end hold the other structs to the sizes and offsets of crates/firmware. It is for
+ * x86-64 (System V), and needs C11.
  *
  * Words: a station is document 01's gate, a requester its console, refused its turned away; a place
  * is an octet of a frame.
@@ -236,7 +236,7 @@ struct dultxibe_report_frame dultxibe_read_report(const uint8_t destination[6],
 struct dultxibe_step dultxibe_next_element(uint8_t kind, size_t position, const uint8_t *frame,
                                            size_t length);
 
-/* ---- the archive's sizes and offsets */
+/* ---- sizes and offsets */
 
 #ifdef __cplusplus
 #define DULTXIBE_ASSERT(test) static_assert(test, #test)

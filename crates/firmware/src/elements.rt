@@ -52,7 +52,7 @@ fn element_of(e: RequestElement) -> requests::Element
     }
 }
 
-// The first count elements of a request for the writer; the other places are blank.
+// The first count elements of a request for the writer, which looks at no other; those are blank.
 pub fn elements_of(es: [RequestElement; 8], count: usize) -> [requests::Element; 8]
     ensures { λ r. ⌜ take count r ≡ map elementOf (take count es) ⌝ }
 {
