@@ -1,14 +1,14 @@
-/* A gate logs a transition across the counter's rollover, takes a console's request for transitions
- * of 15 TUs or more, and reports it: departure 4,294,967,290, arrival 10, so 16 ms, 15 TUs. Then it
- * takes a request for diagnostics, one that it is incapable of and its identity. The console writes
- * the requests and reads the reports, with the octets behind each status: time and transition, or
- * the identity's subelements. */
+/* A station logs a transition across the counter's rollover, takes a requester's request for
+ * transitions of 15 TUs or more, and reports it: departure 4,294,967,290, arrival 10, so 16 ms, 15
+ * TUs. Then it takes a request for diagnostics, one that it is incapable of and its identity. The
+ * requester writes the requests and reads the reports, with the octets behind each status: time and
+ * transition, or the identity's subelements. */
 #include <stdio.h>
 
 #include "dultxibe.h"
 
-static const uint8_t gate[6] = {2, 0, 0, 0, 0, 1};
-static const uint8_t consoles[2][6] = {{2, 0, 0, 0, 0, 16}, {2, 0, 0, 0, 0, 17}};
+static const uint8_t address[6] = {2, 0, 0, 0, 0, 1};
+static const uint8_t requesters[2][6] = {{2, 0, 0, 0, 0, 16}, {2, 0, 0, 0, 0, 17}};
 static const uint8_t stranger[6] = {2, 0, 0, 0, 0, 18};
 
 /* Manufacturer OI, ID string, model, serial number, firmware version: subelements 13, 11, 12, 14, 9. */
@@ -37,7 +37,7 @@ static void print_reply(const char *call, struct dultxibe_reply reply) {
         printf("length %zu\n", reply.length);
         break;
     default:
-        printf("refused %u at %zu\n", reply.number, reply.place);
+        printf("refused %u at %zu\n", reply.cause, reply.place);
     }
 }
 
@@ -56,18 +56,18 @@ static void print_element(struct dultxibe_step step, const uint8_t *frame) {
 }
 
 static void print_report(const uint8_t *frame, size_t length) {
-    struct dultxibe_report_frame report = dultxibe_read_report(consoles[0], frame, length);
-    printf("read: cause %u kind %u dialog %u elements %zu\n", report.number, report.kind,
+    struct dultxibe_report_frame report = dultxibe_read_report(requesters[0], frame, length);
+    printf("read: cause %u kind %u dialog %u elements %zu\n", report.cause, report.kind,
            report.dialog, report.count);
     size_t position = DULTXIBE_FIRST_ELEMENT;
-    while (report.number == 0 && position < length) {
+    while (report.cause == 0 && position < length) {
         struct dultxibe_step step = dultxibe_next_element(report.kind, position, frame, length);
         if (step.found) print_element(step, frame);
         position = step.next;
     }
 }
 
-/* The console's request, written; its length. */
+/* The requester's request, written; its length. */
 static size_t write_request(struct dultxibe_request asked, uint8_t *request, size_t length) {
     struct dultxibe_reply wrote = dultxibe_write_request(asked, request, length);
     print_reply("write", wrote);
@@ -75,12 +75,12 @@ static size_t write_request(struct dultxibe_request asked, uint8_t *request, siz
     return wrote.length;
 }
 
-/* The gate's report to the first console, and what the console reads in it. */
+/* The station's report to the first requester, and what that reads in it. */
 static struct dultxibe_outcome give_report(struct dultxibe_station station, uint32_t reading,
                                            uint8_t kind) {
     uint8_t report[260] = {0};
     struct dultxibe_outcome o =
-        dultxibe_report(station, reading, consoles[0], kind, report, sizeof report);
+        dultxibe_report(station, reading, requesters[0], kind, report, sizeof report);
     print_reply("report", o.reply);
     if (o.reply.code == DULTXIBE_LENGTH) {
         print_octets(report, o.reply.length);
@@ -95,16 +95,16 @@ int main(void) {
     struct dultxibe_request events = {.kind = DULTXIBE_EVENT, .dialog = 7, .count = 1};
     events.elements[0].token = 5;
     events.elements[0].limit = 4;
-    events.elements[0].filter[2] = (struct dultxibe_condition){.present = true, .octets = {15, 0}};
+    events.elements[0].filter[2] = (struct dultxibe_condition){.present = 1, .octets = {15, 0}};
     size_t length = write_request(events, request, sizeof request);
 
-    struct dultxibe_outcome o = dultxibe_setup(identity, sizeof identity, consoles, 2);
+    struct dultxibe_outcome o = dultxibe_setup(identity, sizeof identity, requesters, 2);
     print_reply("setup", o.reply);
     o = dultxibe_log(o.station, 10, transition);
     print_reply("log", o.reply);
-    o = dultxibe_frame(o.station, 11, gate, stranger, request, length);
+    o = dultxibe_frame(o.station, 11, address, stranger, request, length);
     print_reply("stranger's frame", o.reply);
-    o = dultxibe_frame(o.station, 12, gate, consoles[0], request, length);
+    o = dultxibe_frame(o.station, 12, address, requesters[0], request, length);
     print_reply("frame", o.reply);
     o = give_report(o.station, 13, DULTXIBE_EVENT);
     o = give_report(o.station, 14, DULTXIBE_EVENT);
@@ -117,7 +117,7 @@ int main(void) {
     diagnostics.elements[1].type = 1;
     diagnostics.elements[1].timeout = 2;
     length = write_request(diagnostics, request, sizeof request);
-    o = dultxibe_frame(o.station, 15, gate, consoles[0], request, length);
+    o = dultxibe_frame(o.station, 15, address, requesters[0], request, length);
     print_reply("frame", o.reply);
     give_report(o.station, 16, DULTXIBE_DIAGNOSTIC);
     return 0;

@@ -6,7 +6,7 @@ use std::mem::{offset_of, size_of};
 #[repr(C)]
 pub struct Reply {
     pub code: u8,
-    pub number: u8,
+    pub cause: u8,
     pub place: usize,
     pub length: usize,
 }
@@ -14,7 +14,7 @@ pub struct Reply {
 #[derive(Clone, Copy)]
 #[repr(C)]
 pub struct Station {
-    octets: [u64; 575],
+    opaque: [u64; 575],
 }
 
 #[derive(Clone, Copy)]
@@ -39,7 +39,7 @@ pub struct Transition {
 #[derive(Clone, Copy, Debug)]
 #[repr(C)]
 pub struct ReportFrame {
-    pub number: u8,
+    pub cause: u8,
     pub kind: u8,
     pub dialog: u8,
     pub place: usize,
@@ -64,17 +64,17 @@ pub struct Element {
     pub token: u8,
     pub ty: u8,
     pub status: u8,
+    pub logged: u8,
     pub length: usize,
     pub subs: usize,
-    pub logged: bool,
     pub event: Event,
 }
 
 #[derive(Clone, Copy)]
 #[repr(C)]
 pub struct Step {
-    pub number: u8,
-    pub found: bool,
+    pub cause: u8,
+    pub found: u8,
     pub place: usize,
     pub rest: usize,
     pub next: usize,
@@ -83,8 +83,8 @@ pub struct Step {
 
 const _: () = assert!(size_of::<Reply>() == 24 && size_of::<Station>() == 4600);
 const _: () = assert!(size_of::<Outcome>() == 4624 && size_of::<Transition>() == 32);
-const _: () = assert!(size_of::<ReportFrame>() == 24 && size_of::<Step>() == 96);
-const _: () = assert!(offset_of!(Step, element) == 32 && offset_of!(Element, event) == 26);
+const _: () = assert!(size_of::<ReportFrame>() == 24 && size_of::<Step>() == 88);
+const _: () = assert!(offset_of!(Step, element) == 32 && offset_of!(Element, event) == 24);
 
 // C returns an outcome through a pointer that goes before the parameters and comes back (x86-64, System
 // V): named here, so that the outcome is written where the caller keeps it and no copy is added.
@@ -93,7 +93,7 @@ extern "C" {
         outcome: *mut Outcome,
         identity: *const u8,
         length: usize,
-        consoles: *const [u8; 6],
+        requesters: *const [u8; 6],
         count: usize,
     ) -> *mut Outcome;
     pub fn dultxibe_tick(outcome: *mut Outcome, station: Station, reading: u32) -> *mut Outcome;
@@ -116,7 +116,7 @@ extern "C" {
         outcome: *mut Outcome,
         station: Station,
         reading: u32,
-        console: *const [u8; 6],
+        requester: *const [u8; 6],
         kind: u8,
         buffer: *mut u8,
         length: usize,
@@ -125,14 +125,14 @@ extern "C" {
         outcome: *mut Outcome,
         station: Station,
         reading: u32,
-        consoles: *const [u8; 6],
+        requesters: *const [u8; 6],
         count: usize,
     ) -> *mut Outcome;
     pub fn dultxibe_change_network(
         outcome: *mut Outcome,
         station: Station,
         reading: u32,
-        consoles: *const [u8; 6],
+        requesters: *const [u8; 6],
         count: usize,
     ) -> *mut Outcome;
     pub fn dultxibe_read_report(destination: *const [u8; 6], frame: *const u8, length: usize) -> ReportFrame;

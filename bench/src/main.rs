@@ -103,17 +103,17 @@ impl Side for firmware::Outcome {
 
     fn read(octets: &[u8]) -> (usize, u64) {
         let report = unsafe { firmware::dultxibe_read_report(&GATE, octets.as_ptr(), octets.len()) };
-        if report.number != 0 {
-            return (0, report.number as u64);
+        if report.cause != 0 {
+            return (0, report.cause as u64);
         }
         let (mut at, mut sum) = (3, 0);
         while at < octets.len() {
             let step = unsafe { firmware::dultxibe_next_element(report.kind, at, octets.as_ptr(), octets.len()) };
             let e = &step.element;
-            if step.found {
+            if step.found != 0 {
                 sum += e.token as u64 + e.ty as u64 + e.status as u64;
             }
-            if e.logged {
+            if e.logged != 0 {
                 sum += e.event.took as u64 + e.event.target[5] as u64 + e.event.result as u64;
             }
             at = step.next;
@@ -123,13 +123,13 @@ impl Side for firmware::Outcome {
 }
 
 fn answer(answer: twin::Answer) -> Answer {
-    let (code, number, place, length) = match answer {
+    let (code, cause, place, length) = match answer {
         twin::Answer::Accepted => (0, 0, 0, 0),
         twin::Answer::Nothing => (1, 0, 0, 0),
         twin::Answer::Length(length) => (2, 0, 0, length),
         twin::Answer::Refused(refusal) => (3, refusal.number, refusal.place, 0),
     };
-    Answer { code, number, place, length }
+    Answer { code, cause, place, length }
 }
 
 fn kind(number: u8) -> twin::Kind {
@@ -307,7 +307,7 @@ struct Runner<S: Side> {
 impl<S: Side> Runner<S> {
     fn new(case: &Case) -> Runner<S> {
         let (station, frame) = prepare::<S>(case);
-        let none = Answer { code: 9, number: 0, place: 0, length: 0 };
+        let none = Answer { code: 9, cause: 0, place: 0, length: 0 };
         let given = Given { answers: [none; STATIONS], reads: [(0, 0); STATIONS], buffers: vec![vec![0xAA; 2304]; STATIONS] };
         Runner { station, frame, places: vec![station; PLACES], first: 0, given }
     }

@@ -1,21 +1,27 @@
 -- What crosses into C: this paper's numbers and values for each kind and each answer.
 -- Assumes nothing.
 use Prim.Native.Nat.{ℕ}
-use mathlib.Core.List.{List}
-use mathlib.Core.Bool.{not}
+use mathlib.Core.List.{List, map}
+use mathlib.Core.Bool.{Bool, true, false, not}
 use lib.Dec.{eqb}
 use Rattle.laws.specs.Choice.{if_then_else_}
 use Rattle.octets.specs.declared.numbers.Kind.{Kind}
 use Rattle.octets.specs.declared.numbers.Kind.the-variants.{Event, Diagnostic}
 use Rattle.model.specs.Model.{Station, Answer, accepted, nothing, written, refused, Result}
 use Rattle.station.specs.Views.{view}
+use Rattle.subelements.specs.declared.Condition.{Condition as Subelements·Condition}
+use Rattle.requests.specs.declared.Element.{Element as Requests·Element}
 use Rattle.request_writer.specs.declared.Written.{Written}
 use Rattle.request_writer.specs.Writer.{Outcome as Writer·Outcome}
 use Rattle.report_reader.specs.declared.Report.{Report as Reader·Report}
+use Rattle.report_reader.specs.declared.Element.{Element as Reader·Element}
 use Rattle.report_reader.specs.declared.Step.{Step as Reader·Step}
 use Rattle.firmware.specs.declared.Reply.{Reply}
 use Rattle.firmware.specs.declared.Outcome.{Outcome}
+use Rattle.firmware.specs.declared.Condition.{Condition}
+use Rattle.firmware.specs.declared.RequestElement.{RequestElement}
 use Rattle.firmware.specs.declared.Report.{Report}
+use Rattle.firmware.specs.declared.ReportElement.{ReportElement}
 use Rattle.firmware.specs.declared.Step.{Step}
 
 -- ---- kinds: 0 event, any other diagnostic
@@ -27,10 +33,19 @@ abbrev pub numberOf : Kind → ℕ
 numberOf Event = 0
 numberOf Diagnostic = 1
 
+-- ---- flags: any number but 0 is true; a flag that is given is 0 or 1
+
+abbrev pub isSet : ℕ → Bool
+isSet n = not (eqb n 0)
+
+abbrev pub flag : Bool → ℕ
+flag true = 1
+flag false = 0
+
 -- ---- answers: "accepted", "nothing", length, or refusal number and place
 
 abbrev pub reply : ℕ → ℕ → ℕ → ℕ → Reply
-reply code number place length = record { code = code; number = number; place = place; length = length }
+reply code cause place length = record { code = code; cause = cause; place = place; length = length }
 
 unfoldable pub replyTo : Answer → Reply
 replyTo accepted = reply 0 0 0 0
@@ -50,6 +65,21 @@ numbered r = record { station = r .station; reply = replyTo (r .answer); buffer 
 
 abbrev pub viewed : Outcome → List ℕ → Numbered
 viewed o buffer = record { station = view (o .station); reply = o .reply; buffer = buffer }
+
+-- ---- what the request writer takes: the library's elements
+
+abbrev pub conditionOf : Condition → Subelements·Condition
+conditionOf c = record { present = isSet (c .present); octets = c .octets }
+
+abbrev pub elementOf : RequestElement → Requests·Element
+elementOf e = record {
+  token = e .token;
+  ty = e .ty;
+  timeout = e .timeout;
+  subs = 0;
+  limit = e .limit;
+  filter = map conditionOf (e .filter);
+}
 
 -- ---- the request writer: its answer's numbers, and the lent buffer
 
@@ -72,19 +102,30 @@ numberedWrite o = write (replyWritten (o .answer)) (o .octets)
 
 abbrev pub numberedReport : Reader·Report → Report
 numberedReport r = record {
-  number = r .refusal .number;
+  cause = r .refusal .number;
   kind = numberOf (r .kind);
   dialog = r .dialog;
   place = r .refusal .place;
   count = r .count;
 }
 
+abbrev pub numberedElement : Reader·Element → ReportElement
+numberedElement e = record {
+  token = e .token;
+  ty = e .ty;
+  status = e .status;
+  logged = flag (e .logged);
+  length = e .length;
+  subs = e .subs;
+  event = e .event;
+}
+
 abbrev pub numberedStep : Reader·Step → Step
 numberedStep t = record {
-  number = t .refusal .number;
-  found = t .found;
+  cause = t .refusal .number;
+  found = flag (t .found);
   place = t .refusal .place;
   rest = t .rest;
   next = t .next .at;
-  element = t .element;
+  element = numberedElement (t .element);
 }

@@ -32,25 +32,25 @@ fn reply_to(answer: Answer) -> Reply
     match answer {
         Answer::Accepted => Reply {
             code: 0,
-            number: 0,
+            cause: 0,
             place: 0,
             length: 0,
         },
         Answer::Nothing => Reply {
             code: 1,
-            number: 0,
+            cause: 0,
             place: 0,
             length: 0,
         },
         Answer::Length(length) => Reply {
             code: 2,
-            number: 0,
+            cause: 0,
             place: 0,
             length,
         },
         Answer::Refused(refusal) => Reply {
             code: 3,
-            number: refusal.number,
+            cause: refusal.number,
             place: refusal.place,
             length: 0,
         },

@@ -4,6 +4,9 @@ use crate::Report;
 use crate::Request;
 use crate::Step;
 use crate::calls::kind_of;
+use crate::elements::elements_of;
+use crate::elements::flag_number;
+use crate::elements::report_element;
 use octets::Kind;
 use report_reader::Cursor;
 use report_reader::Element;
@@ -11,9 +14,10 @@ use report_reader::read_report;
 use request_writer::Written;
 use request_writer::write_request;
 ghost use mathlib.Core.Path.{_≡_};
+ghost use mathlib.Core.List.{map};
 ghost use Rattle.request_writer.specs.Writer.{writeRequest};
 ghost use Rattle.report_reader.specs.Reader.{foundStep, stepAt, readReport};
-ghost use Rattle.firmware.specs.Numbers.{kindOf, numberOf, replyWritten, write, numberedWrite, numberedReport, numberedStep};
+ghost use Rattle.firmware.specs.Numbers.{kindOf, numberOf, elementOf, replyWritten, write, numberedWrite, numberedReport, numberedStep};
 
 // The number of a kind.
 fn number_of(kind: Kind) -> u8
@@ -32,14 +36,14 @@ fn reply_written(w: Written) -> Reply
     if w.refusal.number != 0 {
         return Reply {
             code: 3,
-            number: w.refusal.number,
+            cause: w.refusal.number,
             place: w.refusal.place,
             length: 0,
         };
     }
     Reply {
         code: 2,
-        number: 0,
+        cause: 0,
         place: 0,
         length: w.length,
     }
@@ -48,10 +52,16 @@ fn reply_written(w: Written) -> Reply
 // Writes a request frame at the front of a buffer, or nothing where it is refused.
 #[no_mangle]
 pub extern "C" fn dultxibe_write_request(q: Request, buf: &mut [u8]) -> Reply
-    ensures { λ r. ⌜ write r (now (buf .exit)) ≡ numberedWrite (writeRequest (kindOf (q .kind)) (q .dialog) (q .elements) (q .count) (now (buf .entry))) ⌝ }
+    ensures { λ r. ⌜ write r (now (buf .exit)) ≡ numberedWrite (writeRequest (kindOf (q .kind)) (q .dialog) (map elementOf (q .elements)) (q .count) (now (buf .entry))) ⌝ }
 {
     let elements = q.elements;
-    reply_written(write_request(kind_of(q.kind), q.dialog, elements, q.count, buf))
+    reply_written(write_request(
+        kind_of(q.kind),
+        q.dialog,
+        elements_of(elements, q.count),
+        q.count,
+        buf,
+    ))
 }
 
 // Judges a whole report frame, given its destination.
@@ -62,7 +72,7 @@ pub extern "C" fn dultxibe_read_report(destination: &[u8; 6], s: &[u8]) -> Repor
     let report = read_report(*destination, s);
     let kind = report.kind;
     Report {
-        number: report.refusal.number,
+        cause: report.refusal.number,
         kind: number_of(kind),
         dialog: report.dialog,
         place: report.refusal.place,
@@ -75,17 +85,18 @@ fn found_step(element: Element, rest: usize, next: usize) -> Step
     ensures { λ r. ⌜ r ≡ numberedStep (foundStep element rest next) ⌝ }
 {
     Step {
-        number: 0,
-        found: true,
+        cause: 0,
+        found: 1,
         place: 0,
         rest,
         next,
-        element,
+        element: report_element(element),
     }
 }
 
 // What stands at a position of a report frame of a kind; the first element stands at 3. One with a
-// transition has a return of its own, for speed: its octets are then moved by wide copies.
+// transition has a return of its own, for speed: merged with the zeros of the others, its octets go
+// through the stack.
 #[no_mangle]
 pub extern "C" fn dultxibe_next_element(kind: u8, at: usize, s: &[u8]) -> Step
     ensures { λ r. ⌜ r ≡ numberedStep (stepAt (now (s .entry)) (kindOf kind) at) ⌝ }
@@ -97,11 +108,11 @@ pub extern "C" fn dultxibe_next_element(kind: u8, at: usize, s: &[u8]) -> Step
         return found_step(element, step.rest, step.next.at);
     }
     Step {
-        number: step.refusal.number,
-        found: step.found,
+        cause: step.refusal.number,
+        found: flag_number(step.found),
         place: step.refusal.place,
         rest: step.rest,
         next: step.next.at,
-        element,
+        element: report_element(element),
     }
 }

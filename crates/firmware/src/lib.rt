@@ -1,18 +1,19 @@
 // The C interface (include/dultxibe.h): setup, the calls on a station, the request writer and the
-// report reader, by value over structs of C's layout, with numbers for answers.
+// report reader, by value over structs of C's layout, with numbers for answers. No bool crosses but
+// those inside a station: a flag is a number, 0 or not.
 mod calls;
+mod elements;
 mod frames;
 
-use report_reader::Element;
-use requests::Element as RequestElement;
+use report_reader::Event;
 use station::Station;
 
-// An answer: code 0 accepted, 1 nothing, 2 a frame of a length, 3 refused by the number of a cause,
-// at a place. What an answer does not have is 0.
+// An answer: code 0 accepted, 1 nothing, 2 a frame of a length, 3 refused by a cause at a place. What
+// an answer does not have is 0.
 #[repr(C)]
 pub struct Reply {
     pub code: u8,
-    pub number: u8,
+    pub cause: u8,
     pub place: usize,
     pub length: usize,
 }
@@ -22,6 +23,24 @@ pub struct Reply {
 pub struct Outcome {
     pub station: Station,
     pub reply: Reply,
+}
+
+// A condition, present where its flag is not 0.
+#[repr(C)]
+pub struct Condition {
+    pub present: u8,
+    pub octets: [u8; 6],
+}
+
+// A request element: the limit of an event, the timeout in seconds of a diagnostic, the conditions of
+// event type 0.
+#[repr(C)]
+pub struct RequestElement {
+    pub token: u8,
+    pub ty: u8,
+    pub timeout: u16,
+    pub limit: u8,
+    pub filter: [Condition; 5],
 }
 
 // What the request writer takes: its kind (0 event, any other diagnostic), dialog token and first
@@ -34,26 +53,39 @@ pub struct Request {
     pub elements: [RequestElement; 8],
 }
 
-// A report frame: refused by the number of a cause at a place; or number 0, its kind (0 event, 1
-// diagnostic), dialog token and number of elements.
+// A report frame: refused by a cause at a place; or cause 0, its kind (0 event, 1 diagnostic), dialog
+// token and number of elements.
 #[repr(C)]
 pub struct Report {
-    pub number: u8,
+    pub cause: u8,
     pub kind: u8,
     pub dialog: u8,
     pub place: usize,
     pub count: usize,
 }
 
-// What stands at a position of a report frame: refused by the number of a cause at a place; or number
-// 0, and an element of the frame's own ID, with the position of what stands behind its status; or one
-// of another ID (not found). Next is the position behind it.
+// The fields of a report element: how many octets stand behind its status, how many subelements they
+// are (in a diagnostic), and whether they are a transition (1; else 0, and it is all zeros).
+#[repr(C)]
+pub struct ReportElement {
+    pub token: u8,
+    pub ty: u8,
+    pub status: u8,
+    pub logged: u8,
+    pub length: usize,
+    pub subs: usize,
+    pub event: Event,
+}
+
+// What stands at a position of a report frame: refused by a cause at a place; or cause 0, and an
+// element of the frame's own ID (found 1), with the position of what stands behind its status; or one
+// of another ID (found 0). Next is the position behind it.
 #[repr(C)]
 pub struct Step {
-    pub number: u8,
-    pub found: bool,
+    pub cause: u8,
+    pub found: u8,
     pub place: usize,
     pub rest: usize,
     pub next: usize,
-    pub element: Element,
+    pub element: ReportElement,
 }

@@ -25,10 +25,26 @@ returns c =
     c .found-step .ensures
     ∙ ap numberedStep (sym (logged-found (a .s .now) _ (a .at) _ e (c .before .if1 .taken)) ∙ e ∙ ap (λ (k : Kind). stepAt (a .s .now) k (a .at)) (c .before .before .before .before .kind-of .ensures))
 
+flag-number-requires : tie.Need-flag-number-requires
+flag-number-requires c κs = search needs
+
+report-element-requires : tie.Need-report-element-requires
+report-element-requires c κs = search needs
+
 returns-2 : tie.Need-returns-2
 returns-2 c =
-    let a = c .before .before .before .before .before .args in
-    ap numberedStep (c .before .before .next .ensures ∙ ap (λ (k : Kind). stepAt (a .s .now) k (a .at)) (c .before .before .before .kind-of .ensures))
+    let a = c .before .before .before .before .before .before .before .args in
+    rw (c .report-element .ensures, c .before .flag-number .ensures)
+    (ap numberedStep (c .before .before .before .before .next .ensures ∙ ap (λ (k : Kind). stepAt (a .s .now) k (a .at)) (c .before .before .before .before .before .kind-of .ensures)))
 
 pub dultxibe-next-element-spec : {M : Type 1} → statement M
-dultxibe-next-element-spec = tie.close (tie.spec kind-of-requires next-requires found-step-requires returns returns-2)
+dultxibe-next-element-spec =
+    tie.close
+    (tie.spec
+    kind-of-requires
+    next-requires
+    found-step-requires
+    returns
+    flag-number-requires
+    report-element-requires
+    returns-2)
