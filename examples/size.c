@@ -36,7 +36,7 @@ int main(void) {
     const uint8_t *c = (const uint8_t *)other;
     size_t causes = 0, cause = 0, end = 0;
     for (size_t i = 0; i < AREA; i++) {
-        if (a[i] == DULTXIBE_CAUSE_REQUESTER_LIST && b[i] == DULTXIBE_CAUSE_IDENTITY) {
+        if (a[i] == DULTXIBE_CAUSE_BAD_REQUESTER_LIST && b[i] == DULTXIBE_CAUSE_BAD_IDENTITY) {
             causes++;
             cause = i;
         }

@@ -41,23 +41,23 @@ enum {
 /* Why a call is refused: document 01's table, "Why a call is turned away". The place is 0 but where
  * another is named. */
 enum {
-    DULTXIBE_CAUSE_FRAME_LENGTH = 1,        /* frame under 3 or over 2,304 octets */
-    DULTXIBE_CAUSE_FRAME_HEADER = 2,        /* category not 10, or another action */
-    DULTXIBE_CAUSE_DIALOG_TOKEN = 3,        /* a request's dialog token is 0 */
-    DULTXIBE_CAUSE_ELEMENT_EDGE = 4,        /* element passes the frame's end; place: its start */
-    DULTXIBE_CAUSE_ELEMENT_LENGTH = 5,      /* element's body too short; place: its start */
-    DULTXIBE_CAUSE_ELEMENT_TOKEN = 6,       /* token repeated, or an event's is 0; place: element */
-    DULTXIBE_CAUSE_SUBELEMENT = 7,          /* passes the end, or wrong length; place: its start */
+    DULTXIBE_CAUSE_BAD_FRAME_LENGTH = 1,    /* frame under 3 or over 2,304 octets */
+    DULTXIBE_CAUSE_BAD_HEADER = 2,          /* category not 10, or another action */
+    DULTXIBE_CAUSE_ZERO_DIALOG_TOKEN = 3,   /* a request's dialog token is 0 */
+    DULTXIBE_CAUSE_ELEMENT_PAST_END = 4,    /* element passes the frame's end; place: its start */
+    DULTXIBE_CAUSE_SHORT_ELEMENT = 5,       /* element's body too short; place: its start */
+    DULTXIBE_CAUSE_BAD_ELEMENT_TOKEN = 6,   /* token repeated, or an event's is 0; place: element */
+    DULTXIBE_CAUSE_BAD_SUBELEMENT = 7,      /* passes the end, or wrong length; place: its start */
     DULTXIBE_CAUSE_REPEATED_SUBELEMENT = 8, /* a condition stands twice; place: the second */
-    DULTXIBE_CAUSE_NINTH_ELEMENT = 9,       /* more than eight elements; place: the ninth */
+    DULTXIBE_CAUSE_TOO_MANY_ELEMENTS = 9,   /* more than eight elements; place: the ninth */
     DULTXIBE_CAUSE_NO_ELEMENT = 10,         /* a diagnostic request without one */
     DULTXIBE_CAUSE_GROUP_DESTINATION = 11,  /* the destination is a group address */
     DULTXIBE_CAUSE_UNKNOWN_REQUESTER = 12,  /* not on the station's list */
     DULTXIBE_CAUSE_SHORT_BUFFER = 13,       /* under 260 octets for a report, 267 for a request */
-    DULTXIBE_CAUSE_TIME_FIELD = 14,         /* out of range, not unknown; place when reading: element */
-    DULTXIBE_CAUSE_REQUESTER_LIST = 15,     /* empty, over four, repeated, or with a group address */
-    DULTXIBE_CAUSE_IDENTITY = 16,           /* no good identity */
-    DULTXIBE_CAUSE_REPORT_BODY = 17         /* bad status, or length for it; place: element */
+    DULTXIBE_CAUSE_BAD_TIME = 14,           /* out of range, not unknown; place when reading: element */
+    DULTXIBE_CAUSE_BAD_REQUESTER_LIST = 15, /* empty, over four, repeated, or with a group address */
+    DULTXIBE_CAUSE_BAD_IDENTITY = 16,       /* no good identity */
+    DULTXIBE_CAUSE_BAD_REPORT_BODY = 17     /* bad status, or length for it; place: element */
 };
 
 /* code is one of the four answers. length is 0 but for DULTXIBE_LENGTH; cause and place are 0 but for
@@ -109,7 +109,7 @@ struct dultxibe_outcome {
 };
 
 /* Sets up a station with an identity (a subelement list) and one to four requesters.
- * Accepted; or refused by REQUESTER_LIST or IDENTITY, with a station that has no requester. */
+ * Accepted; or refused by BAD_REQUESTER_LIST or BAD_IDENTITY, with a station that has no requester. */
 struct dultxibe_outcome dultxibe_setup(const uint8_t *identity, size_t length,
                                        const uint8_t (*requesters)[6], size_t count);
 
@@ -117,7 +117,7 @@ struct dultxibe_outcome dultxibe_setup(const uint8_t *identity, size_t length,
  * first. Accepted. */
 struct dultxibe_outcome dultxibe_tick(struct dultxibe_station station, uint32_t reading);
 
-/* Logs a transition that ends at the reading. Accepted; or refused by TIME_FIELD. */
+/* Logs a transition that ends at the reading. Accepted; or refused by BAD_TIME. */
 struct dultxibe_outcome dultxibe_log(struct dultxibe_station station, uint32_t reading,
                                      struct dultxibe_transition transition);
 
@@ -135,7 +135,7 @@ struct dultxibe_outcome dultxibe_report(struct dultxibe_station station, uint32_
                                         size_t length);
 
 /* A move inside the network: names the requesters anew, drops every request, keeps the log.
- * Accepted; or refused by REQUESTER_LIST, or IDENTITY (the station has none). */
+ * Accepted; or refused by BAD_REQUESTER_LIST, or BAD_IDENTITY (the station has none). */
 struct dultxibe_outcome dultxibe_roam(struct dultxibe_station station, uint32_t reading,
                                       const uint8_t (*requesters)[6], size_t count);
 
@@ -220,19 +220,19 @@ struct dultxibe_step {
 enum { DULTXIBE_FIRST_ELEMENT = 3 };
 
 /* Writes a request frame at the front of the buffer. Its length, octets past it as they were; or
- * refused by SHORT_BUFFER, DIALOG_TOKEN, NINTH_ELEMENT, ELEMENT_TOKEN or NO_ELEMENT, the buffer as it
- * was. */
+ * refused by SHORT_BUFFER, ZERO_DIALOG_TOKEN, TOO_MANY_ELEMENTS, BAD_ELEMENT_TOKEN or NO_ELEMENT,
+ * the buffer as it was. */
 struct dultxibe_reply dultxibe_write_request(struct dultxibe_request request, uint8_t *buffer,
                                              size_t length);
 
-/* Judges a whole report frame: cause 0; or refused by GROUP_DESTINATION, FRAME_LENGTH, FRAME_HEADER,
- * ELEMENT_EDGE, ELEMENT_LENGTH, REPORT_BODY, TIME_FIELD or SUBELEMENT. */
+/* Judges a whole report frame: cause 0; or refused by GROUP_DESTINATION, BAD_FRAME_LENGTH,
+ * BAD_HEADER, ELEMENT_PAST_END, SHORT_ELEMENT, BAD_REPORT_BODY, BAD_TIME or BAD_SUBELEMENT. */
 struct dultxibe_report_frame dultxibe_read_report(const uint8_t destination[6],
                                                   const uint8_t *frame, size_t length);
 
 /* Reads what stands at a position of a report frame of a kind, from DULTXIBE_FIRST_ELEMENT and then
- * each step's next, while that is below length. Refused by ELEMENT_EDGE, ELEMENT_LENGTH, REPORT_BODY,
- * TIME_FIELD or SUBELEMENT where the frame is. */
+ * each step's next, while that is below length. Refused by ELEMENT_PAST_END, SHORT_ELEMENT,
+ * BAD_REPORT_BODY, BAD_TIME or BAD_SUBELEMENT where the frame is. */
 struct dultxibe_step dultxibe_next_element(uint8_t kind, size_t position, const uint8_t *frame,
                                            size_t length);
 

@@ -10,7 +10,7 @@ ghost use mathlib.Core.Path.{_≡_};
 ghost use mathlib.Core.List.{List, []};
 ghost use Prim.Native.Nat.{ℕ};
 ghost use Rattle.requesters.specs.Views.{viewAnswer};
-ghost use Rattle.model.specs.Model.{clock, logging, frame, report, roam, change};
+ghost use Rattle.model.specs.Model.{standard, clock, logging, frame, report, roam, change};
 ghost use Rattle.model.specs.Stations.{setup, step};
 ghost use Rattle.station.specs.Views.{view, viewOutcome};
 ghost use Rattle.firmware.specs.Numbers.{kindOf, numbered, replyTo, viewed};
@@ -71,7 +71,7 @@ fn outcome_of(o: station::Outcome) -> Outcome
 // Names the identity and the requesters.
 #[no_mangle]
 pub extern "C" fn dultxibe_setup(identity: &[u8], list: &[[u8; 6]]) -> Outcome
-    ensures { λ r. ⌜ viewed r [] ≡ numbered (setup (now (identity .entry)) (now (list .entry))) ⌝ }
+    ensures { λ r. ⌜ viewed r [] ≡ numbered (setup standard (now (identity .entry)) (now (list .entry))) ⌝ }
 {
     outcome_of(Station::setup(identity, list))
 }
@@ -79,7 +79,7 @@ pub extern "C" fn dultxibe_setup(identity: &[u8], list: &[[u8; 6]]) -> Outcome
 // A bare clock reading.
 #[no_mangle]
 pub extern "C" fn dultxibe_tick(g: Station, reading: u32) -> Outcome
-    ensures { λ r. ⌜ viewed r [] ≡ numbered (step (view g) (clock reading)) ⌝ }
+    ensures { λ r. ⌜ viewed r [] ≡ numbered (step standard (view g) (clock reading)) ⌝ }
 {
     outcome_of(g.tick(Milliseconds(reading)))
 }
@@ -87,7 +87,7 @@ pub extern "C" fn dultxibe_tick(g: Station, reading: u32) -> Outcome
 // Logs a transition, which the reading ends.
 #[no_mangle]
 pub extern "C" fn dultxibe_log(g: Station, reading: u32, t: Transition) -> Outcome
-    ensures { λ r. ⌜ viewed r [] ≡ numbered (step (view g) (logging reading t)) ⌝ }
+    ensures { λ r. ⌜ viewed r [] ≡ numbered (step standard (view g) (logging reading t)) ⌝ }
 {
     outcome_of(g.log_transition(Milliseconds(reading), t))
 }
@@ -101,7 +101,7 @@ pub extern "C" fn dultxibe_frame(
     source: &[u8; 6],
     o: &[u8],
 ) -> Outcome
-    ensures { λ r. ⌜ viewed r [] ≡ numbered (step (view g) (frame reading (now (destination .entry)) (now (source .entry)) (now (o .entry)))) ⌝ }
+    ensures { λ r. ⌜ viewed r [] ≡ numbered (step standard (view g) (frame reading (now (destination .entry)) (now (source .entry)) (now (o .entry)))) ⌝ }
 {
     outcome_of(g.take_frame(Milliseconds(reading), *destination, *source, o))
 }
@@ -115,7 +115,7 @@ pub extern "C" fn dultxibe_report(
     kind: u8,
     buf: &mut [u8],
 ) -> Outcome
-    ensures { λ r. ⌜ viewed r (now (buf .exit)) ≡ numbered (step (view g) (report reading (now (requester .entry)) (kindOf kind) (now (buf .entry)))) ⌝ }
+    ensures { λ r. ⌜ viewed r (now (buf .exit)) ≡ numbered (step standard (view g) (report reading (now (requester .entry)) (kindOf kind) (now (buf .entry)))) ⌝ }
 {
     outcome_of(g.report(Milliseconds(reading), *requester, kind_of(kind), buf))
 }
@@ -123,7 +123,7 @@ pub extern "C" fn dultxibe_report(
 // A move inside the network.
 #[no_mangle]
 pub extern "C" fn dultxibe_roam(g: Station, reading: u32, list: &[[u8; 6]]) -> Outcome
-    ensures { λ r. ⌜ viewed r [] ≡ numbered (step (view g) (roam reading (now (list .entry)))) ⌝ }
+    ensures { λ r. ⌜ viewed r [] ≡ numbered (step standard (view g) (roam reading (now (list .entry)))) ⌝ }
 {
     outcome_of(g.roam(Milliseconds(reading), list))
 }
@@ -131,7 +131,7 @@ pub extern "C" fn dultxibe_roam(g: Station, reading: u32, list: &[[u8; 6]]) -> O
 // A network change.
 #[no_mangle]
 pub extern "C" fn dultxibe_change_network(g: Station, reading: u32, list: &[[u8; 6]]) -> Outcome
-    ensures { λ r. ⌜ viewed r [] ≡ numbered (step (view g) (change reading (now (list .entry)))) ⌝ }
+    ensures { λ r. ⌜ viewed r [] ≡ numbered (step standard (view g) (change reading (now (list .entry)))) ⌝ }
 {
     outcome_of(g.change_network(Milliseconds(reading), list))
 }
