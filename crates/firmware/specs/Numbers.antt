@@ -5,6 +5,7 @@ use mathlib.Core.List.{List, map}
 use mathlib.Core.Bool.{Bool, true, false, not}
 use lib.Dec.{eqb}
 use Rattle.laws.specs.Choice.{if_then_else_}
+use Rattle.octets.specs.Numbers.{kindOf}
 use Rattle.octets.specs.declared.numbers.Kind.{Kind}
 use Rattle.octets.specs.declared.numbers.Kind.the-variants.{Event, Diagnostic}
 use Rattle.model.specs.Model.{Station, Answer, accepted, nothing, written, refused, Result}
@@ -25,9 +26,6 @@ use Rattle.firmware.specs.declared.ReportElement.{ReportElement}
 use Rattle.firmware.specs.declared.Step.{Step}
 
 -- ---- kinds: 0 event, any other diagnostic
-
-abbrev pub kindOf : ℕ → Kind
-kindOf n = if eqb n 0 then Event else Diagnostic
 
 abbrev pub numberOf : Kind → ℕ
 numberOf Event = 0

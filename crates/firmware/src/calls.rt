@@ -1,9 +1,9 @@
 // Setup, and the calls on a station.
+use crate::Outcome;
 use crate::Reply;
 use events::Transition;
-use octets::Kind;
+use octets::kind_of;
 use requesters::Answer;
-use station::Outcome;
 use station::Station;
 use units::Milliseconds;
 ghost use mathlib.Core.Path.{_≡_};
@@ -12,18 +12,9 @@ ghost use Prim.Native.Nat.{ℕ};
 ghost use Rattle.requesters.specs.Views.{viewAnswer};
 ghost use Rattle.model.specs.Model.{standard, clock, logging, frame, report, roam, change};
 ghost use Rattle.model.specs.Stations.{setup, step};
+ghost use Rattle.octets.specs.Numbers.{kindOf};
 ghost use Rattle.station.specs.Views.{view, viewOutcome};
-ghost use Rattle.firmware.specs.Numbers.{kindOf, numbered, replyTo, viewed};
-
-// The kind of a number.
-pub fn kind_of(n: u8) -> Kind
-    ensures { λ r. ⌜ r ≡ kindOf n ⌝ }
-{
-    match n {
-        0 => Kind::Event,
-        1..=255 => Kind::Diagnostic,
-    }
-}
+ghost use Rattle.firmware.specs.Numbers.{numbered, replyTo, viewed};
 
 // The numbers of an answer.
 fn reply_to(answer: Answer) -> Reply

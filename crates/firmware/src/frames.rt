@@ -3,11 +3,11 @@ use crate::Reply;
 use crate::Report;
 use crate::Request;
 use crate::Step;
-use crate::calls::kind_of;
 use crate::elements::elements_of;
 use crate::elements::flag_number;
 use crate::elements::report_element;
 use octets::Kind;
+use octets::kind_of;
 use report_reader::Cursor;
 use report_reader::Element;
 use report_reader::read_report;
@@ -15,9 +15,10 @@ use request_writer::Written;
 use request_writer::write_request;
 ghost use mathlib.Core.Path.{_≡_};
 ghost use mathlib.Core.List.{map};
+ghost use Rattle.octets.specs.Numbers.{kindOf};
 ghost use Rattle.request_writer.specs.Writer.{writeRequest};
 ghost use Rattle.report_reader.specs.Reader.{foundStep, stepAt, readReport};
-ghost use Rattle.firmware.specs.Numbers.{kindOf, numberOf, elementOf, replyWritten, write, numberedWrite, numberedReport, numberedStep};
+ghost use Rattle.firmware.specs.Numbers.{numberOf, elementOf, replyWritten, write, numberedWrite, numberedReport, numberedStep};
 
 // The number of a kind.
 fn number_of(kind: Kind) -> u8

@@ -1,12 +1,18 @@
 -- Document 01, "Frames and elements": the numbers of frames, elements and statuses. src/numbers.rt has them under the same names.
 -- Assumes nothing.
 use Prim.Native.Nat.{ℕ}
+use lib.Dec.{eqb}
+use Rattle.laws.specs.Choice.{if_then_else_}
 use Rattle.octets.specs.declared.numbers.Kind.{Kind}
 use Rattle.octets.specs.declared.numbers.Kind.the-variants.{Event, Diagnostic}
 
 -- "category 10"
 abbrev pub category : ℕ
 category = 10
+
+-- the kind of a number, where one stands for it: 0 is an event's
+abbrev pub kindOf : ℕ → Kind
+kindOf n = if eqb n 0 then Event else Diagnostic
 
 -- "Actions: 0 Event Request, 1 Event Report, 2 Diagnostic Request, 3 Diagnostic Report."
 abbrev pub requestAction : Kind → ℕ

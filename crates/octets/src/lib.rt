@@ -23,6 +23,7 @@ pub use fields::pair;
 pub use fields::pair_at;
 pub use fields::size;
 pub use numbers::Kind;
+pub use numbers::kind_of;
 pub use refusals::Refusal;
 pub use text::put;
 pub use text::put_decimal;

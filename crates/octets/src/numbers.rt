@@ -1,6 +1,6 @@
 // The numbers of frames, elements and statuses, each named once.
 ghost use mathlib.Core.Path.{_≡_};
-ghost use Rattle.octets.specs.Numbers.{requestAction, reportAction, requestId, reportId};
+ghost use Rattle.octets.specs.Numbers.{requestAction, reportAction, requestId, reportId, kindOf};
 
 pub const CATEGORY: u8 = 10;
 
@@ -62,5 +62,15 @@ impl Kind {
             Kind::Event => 79,
             Kind::Diagnostic => 81,
         }
+    }
+}
+
+// The kind of a number, where one stands for it: 0 is an event's.
+pub fn kind_of(number: u8) -> Kind
+    ensures { λ r. ⌜ r ≡ kindOf number ⌝ }
+{
+    match number {
+        0 => Kind::Event,
+        1..=255 => Kind::Diagnostic,
     }
 }

@@ -19,10 +19,6 @@ use Rattle.traces.specs.declared.elements.Recorded.{Recorded}
 use Rattle.traces.specs.declared.elements.Elements.{Elements}
 use Rattle.traces.specs.Places.{placeBehindRecord}
 
--- kind 0 and action 0 are an event's
-abbrev pub tracedKind : ℕ → Kind
-tracedKind n = if eqb n 0 then Event else Diagnostic
-
 abbrev pub blankTraced : Element
 blankTraced = record { token = 0; ty = 0; limit = 0; subs = 0; timeout = 0; filter = noFilter }
 

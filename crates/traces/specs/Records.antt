@@ -6,6 +6,7 @@ use mathlib.Core.List.{List, [], _∷_}
 use lib.ListN.{length, getD}
 use lib.Dec.{eqb, ltb, leb}
 use Rattle.laws.specs.Choice.{if_then_else_}
+use Rattle.octets.specs.Numbers.{kindOf}
 use Rattle.octets.specs.Fields.{pairAt}
 use Rattle.octets.specs.Addresses.{addressAt}
 use Rattle.units.specs.declared.Milliseconds.{Milliseconds}
@@ -17,7 +18,7 @@ use Rattle.traces.specs.declared.calls.MoveCall.{MoveCall}
 use Rattle.traces.specs.declared.calls.WriterCall.{WriterCall}
 use Rattle.traces.specs.declared.calls.ReaderCall.{ReaderCall}
 use Rattle.traces.specs.Places.{placeBehindRecord, badLength, octetsEnd, listEnd}
-use Rattle.traces.specs.Elements.{tracedKind, elementsAt}
+use Rattle.traces.specs.Elements.{elementsAt}
 
 -- ---- where a record's fields end; 0: refused
 
@@ -37,7 +38,7 @@ unfoldable pub writerCallEnd : List ℕ → ℕ → ℕ
 writerCallEnd s at =
     if badLength s at then 0
     else if not (goodAction (getD s (at + 3) 0)) then 0
-    else elementsAt s (tracedKind (getD s (at + 3) 0)) (getD s (at + 5) 0) (placeBehindRecord s at 6) .end
+    else elementsAt s (kindOf (getD s (at + 3) 0)) (getD s (at + 5) 0) (placeBehindRecord s at 6) .end
 
 -- the fields of a record of a number, from a position on
 unfoldable pub fieldsEnd : List ℕ → ℕ → ℕ → ℕ
@@ -118,7 +119,7 @@ reportFields s at =
     record {
       reading = millisecondsAt s at;
       requester = addressAt s (at + 4);
-      kind = tracedKind (getD s (at + 10) 0);
+      kind = kindOf (getD s (at + 10) 0);
       length = pairAt s (at + 11);
       fill = getD s (at + 13) 0;
     }
@@ -131,7 +132,7 @@ writerFields s at =
     record {
       length = pairAt s at;
       fill = getD s (at + 2) 0;
-      kind = tracedKind (getD s (at + 3) 0);
+      kind = kindOf (getD s (at + 3) 0);
       dialog = getD s (at + 4) 0;
       count = getD s (at + 5) 0;
       elements = at + 6;

@@ -1,8 +1,8 @@
 // The fields of each record; octets past the end of the input are 0.
-use crate::elements::kind_of;
 use events::Transition;
 use octets::Kind;
 use octets::address_at;
+use octets::kind_of;
 use octets::octet;
 use octets::pair_at;
 use units::Milliseconds;

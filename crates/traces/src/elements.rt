@@ -10,7 +10,7 @@ use subelements::Condition;
 use subelements::walk_request;
 ghost use mathlib.Core.Path.{_≡_};
 ghost use lib.ListN.{set};
-ghost use Rattle.traces.specs.Elements.{tracedKind, blankTraced, refusedElement, conditionEnd, conditionsEnd, badValue, limitOf, timeoutOf, tracedElementAt, withTraced, elementsAt};
+ghost use Rattle.traces.specs.Elements.{blankTraced, refusedElement, conditionEnd, conditionsEnd, badValue, limitOf, timeoutOf, tracedElementAt, withTraced, elementsAt};
 
 // One element, and where it ends; 0: refused.
 pub struct Recorded {
@@ -22,16 +22,6 @@ pub struct Recorded {
 pub struct Elements {
     pub end: usize,
     pub elements: [Element; 8],
-}
-
-// Kind 0 and action 0 are an event's.
-pub fn kind_of(number: u8) -> Kind
-    ensures { λ r. ⌜ r ≡ tracedKind number ⌝ }
-{
-    if number == 0 {
-        return Kind::Event;
-    }
-    Kind::Diagnostic
 }
 
 fn no_element() -> Element

@@ -1,6 +1,6 @@
 // Where each record ends; 0: refused.
 use crate::elements::elements_at;
-use crate::elements::kind_of;
+use octets::kind_of;
 use octets::octet;
 use octets::pair_at;
 use octets::size;

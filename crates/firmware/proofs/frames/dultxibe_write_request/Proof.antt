@@ -3,10 +3,11 @@
 use mathlib.Core.Path.{_≡_, sym, ap, _∙_}
 use mathlib.Core.List.{map}
 use lib.ListN.{length, take, length-map}
+use Rattle.octets.specs.Numbers.{kindOf}
 use Rattle.laws.proofs.Arrays.{length-mapped, map-take}
 use Rattle.octets.specs.declared.numbers.Kind.{Kind}
 use Rattle.request_writer.specs.Writer.{writeRequest}
-use Rattle.firmware.specs.Numbers.{kindOf, elementOf, numberedWrite}
+use Rattle.firmware.specs.Numbers.{elementOf, numberedWrite}
 use Rattle.firmware.proofs.Laws.{write-first}
 use borrow.Author.Needs.{needs}
 use Rattle.firmware.proofs.frames.dultxibe_write_request.Statement.{statement}

@@ -1,9 +1,9 @@
--- `firmware::calls::kind_of` meets its contract.
+-- `octets::numbers::kind_of` meets its contract.
 -- Assumes nothing.
 use borrow.Author.Tests.{ne-eqb}
 use Rattle.laws.specs.Choice.{if_then_else_}
-use Rattle.firmware.proofs.calls.kind_of.Statement.{statement}
-use Rattle.firmware.proofs.calls.kind_of.Tie as tie
+use Rattle.octets.proofs.numbers.kind_of.Statement.{statement}
+use Rattle.octets.proofs.numbers.kind_of.Tie as tie
 
 returns : tie.Need-returns
 unfolding if_then_else_
