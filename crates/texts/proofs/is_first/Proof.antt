@@ -1,8 +1,8 @@
--- `octets::text::is_first` meets its contract.
+-- `texts::is_first` meets its contract.
 -- Assumes nothing.
 use borrow.Author.Tests.{eq-eqb, ne-eqb}
-use Rattle.octets.proofs.text.is_first.Statement.{statement}
-use Rattle.octets.proofs.text.is_first.Tie as tie
+use Rattle.texts.proofs.is_first.Statement.{statement}
+use Rattle.texts.proofs.is_first.Tie as tie
 
 returns : tie.Need-returns
 returns c = rw (ne-eqb _ _ (c .if1 .taken))

@@ -1,11 +1,11 @@
--- `octets::text::digit` meets its contract.
+-- `texts::digit` meets its contract.
 -- Assumes nothing.
 use borrow.Author.Tests.{lt-ltb, le-ltb}
 use Rattle.laws.specs.Choice.{if_then_else_}
-use Rattle.octets.specs.Text.{digit}
+use Rattle.texts.specs.Text.{digit}
 use borrow.Author.Needs.{needs}
-use Rattle.octets.proofs.text.digit.Statement.{statement}
-use Rattle.octets.proofs.text.digit.Tie as tie
+use Rattle.texts.proofs.digit.Statement.{statement}
+use Rattle.texts.proofs.digit.Tie as tie
 
 add-result : tie.Need-add-result
 add-result c = search needs

@@ -7,8 +7,8 @@ use lib.ListN.{length, take, drop}
 use Rattle.laws.specs.Buffers.{wrote}
 use Rattle.laws.proofs.Buffers.{put-at-fits, put-at-short, copied, lent-tail}
 use borrow.Author.Needs.{needs}
-use Rattle.octets.proofs.text.put.Statement.{statement}
-use Rattle.octets.proofs.text.put.Tie as tie
+use Rattle.octets.proofs.buffers.put.Statement.{statement}
+use Rattle.octets.proofs.buffers.put.Tie as tie
 
 returns : tie.Need-returns
 returns c = sym (put-at-short _ _ _ (omega arith))

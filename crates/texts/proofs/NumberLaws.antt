@@ -3,16 +3,17 @@
 use Prim.Native.Nat.{ℕ, zero, suc, _+_, _-_, _/_, _%_, _^_, _≤_, _<_}
 use mathlib.Core.Path.{_≡_, sym, _∙_, ap}
 use mathlib.Core.Bool.{true, false, _&&_}
-use mathlib.Core.List.{List, [], _∷_}
+use mathlib.Core.List.{List, [], _∷_, _++_}
 use native.Mathlib.Omega.{arith}
 use native.Mathlib.Nat.{div-lt-iff-lt-mul, pow-suc}
 use lib.Dec.{eqb, leb}
-use lib.ListN.{length, drop, set, length-set}
+use lib.ListN.{length, drop, set, length-append, length-set}
 use lib.Seq.{drop-cons, getD-set-same, drop-set-lt}
 use borrow.Author.Tests.{eq-eqb, le-leb}
 use Rattle.laws.specs.Choice.{if_then_else_}
+use Rattle.laws.specs.Buffers.{wrote, putAt}
 use Rattle.laws.proofs.Choice.{either}
-use Rattle.octets.specs.Text.{digit, spell, decimal}
+use Rattle.texts.specs.Text.{digit, spell, decimal, named}
 
 -- the digit in front of a text that is spelt from its end, place by place
 pub spelt : {A : Type 0} (text : List A) (i : ℕ) (d z : A) → 0 < i → i ≤ length text → drop (i - 1) (set text (i - 1) d) ≡ d ∷ drop i text
@@ -67,7 +68,12 @@ spell-length (suc fuel) (suc k) least n text small few =
     either (λ (l : List ℕ). length l ≤ suc (suc k) + length text) _ _ _ (λ _. omega arith)
     (λ _. omega (arith, spell-length fuel k (least - 1) (n / 10) (digit (n % 10) ∷ text) (div-lt-iff-lt-mul (omega arith) .1 (rw (pow-suc 10 (suc k)) at small)) (omega arith)))
 
-pub decimal-length : (k least n : ℕ) → n < 10 ^ k → 0 < k → least ≤ k → length (decimal least n) ≤ k
+decimal-length : (k least n : ℕ) → n < 10 ^ k → 0 < k → least ≤ k → length (decimal least n) ≤ k
 unfolding decimal
 decimal-length zero least n small some few = absurd (omega arith)
 decimal-length (suc k) least n small some few = omega (arith, spell-length 20 k least n [] small few)
+
+-- a number behind a name, written, with how long it is at most
+pub named-put : (k n at m : ℕ) (name s y : List ℕ) → n < 10 ^ k → 0 < k → wrote m y ≡ putAt (name ++ decimal 1 n) at s → (wrote m y ≡ putAt (named name n) at s) × (length (named name n) ≤ length name + k)
+unfolding named
+named-put k n at m name s y small some e = (e, omega (arith, length-append name (decimal 1 n), decimal-length k 1 n small some (omega arith)))
