@@ -4,9 +4,9 @@ use Prim.Native.Nat.{ℕ, _+_, _*_, _^_, _≤_, _<_}
 use mathlib.Core.Path.{_≡_, refl, sym, ap, _∙_}
 use mathlib.Core.List.{List, [], _∷_, _++_, append-assoc, append-nil}
 use lib.ListN.{length, getD, take, drop, length-append, take-append-drop}
-use lib.Seq.{drop-drop, length-take-le, take-at, take-suc}
+use lib.Seq.{drop-drop, length-take-le, take-at, take-suc, take-all, take-take}
 use native.Mathlib.Numerals.{add-one}
-use native.Mathlib.Nat.{zero-add}
+use native.Mathlib.Nat.{zero-add, mul-le-mul-left}
 use native.Mathlib.Omega.{arith}
 use Rattle.laws.specs.Buffers.{onto, pieces, Written, wrote, putAt}
 use Rattle.laws.proofs.Buffers.{put-at-fits, Putting, putting-at, putting-length, putting-done, putting-end}
@@ -77,14 +77,31 @@ both {o₁} {o₂} {s} {y} {z} {at} {k} {m} p q = record {
       put-two o₁ o₂ s at h k m y z first (q .does h₂);
 }
 
--- one more of the pieces that a loop writes
-pub one-more : {P : Type 0} (f : P → List ℕ) (ps : List P) (d : P) {from at n i most : ℕ} {s buf y : List ℕ} → i < length ps
-    → Puts (most * i) (pieces (λ (k : ℕ) (p : P). f p) 0 (take i ps)) from s at buf → Puts most (f (getD ps i d)) at buf n y
-    → Puts (most * (i + 1)) (pieces (λ (k : ℕ) (p : P). f p) 0 (take (i + 1) ps)) from s n y
-one-more {P} f ps d {i = i} {most = most} h p q =
-    let taken : take (i + 1) ps ≡ take i ps ++ (getD ps i d ∷ []) = rw add-one (take-suc ps i d h) in
-    let all : pieces (λ (k : ℕ) (p : P). f p) 0 (take (i + 1) ps) ≡ pieces (λ (k : ℕ) (p : P). f p) 0 (take i ps) ++ f (getD ps i d) = ap (pieces (λ (k : ℕ) (p : P). f p) 0) taken ∙ pieces-snoc f 0 (take i ps) (getD ps i d) in
-    rw all (at-most (most * (i + 1)) (omega arith) (both p q))
+-- ---- the invariant of a loop that writes the first `count` of some pieces one behind the other: i of them are written
+
+pub record Lining {P : Type 0} (f : P → List ℕ) (most : ℕ) (ps : List P) (count from : ℕ) (s buf : List ℕ) (at i : ℕ) : Type 0 where
+  pub few : i ≤ count
+  pub there : i ≤ length ps
+  pub same : length buf ≡ length s
+  pub puts : Puts (most * i) (pieces (λ (k : ℕ) (p : P). f p) 0 (take i ps)) from s at buf
+
+pub lining-start : {P : Type 0} (f : P → List ℕ) (most : ℕ) (ps : List P) (count from : ℕ) (s : List ℕ) → Lining f most ps count from s s from 0
+unfolding pieces
+lining-start f most ps count from s = record { few = omega arith; there = omega arith; same = refl; puts = at-most (most * 0) (omega arith) (nothing from s) }
+
+module _ {P : Type 0} {f : P → List ℕ} {most : ℕ} {ps : List P} {count from : ℕ} {s buf : List ℕ} {at i : ℕ} (l : Lining f most ps count from s buf at i) where
+  pub lining-next : (d : P) {n : ℕ} {y : List ℕ} → i < count → i < length ps → length y ≡ length buf → Puts most (f (getD ps i d)) at buf n y → Lining f most ps count from s y n (i + 1)
+  lining-next d more h keeps q =
+      let taken : take (i + 1) ps ≡ take i ps ++ (getD ps i d ∷ []) = rw add-one (take-suc ps i d h) in
+      let all : pieces (λ (k : ℕ) (p : P). f p) 0 (take (i + 1) ps) ≡ pieces (λ (k : ℕ) (p : P). f p) 0 (take i ps) ++ f (getD ps i d)
+      = ap (pieces (λ (k : ℕ) (p : P). f p) 0) taken ∙ pieces-snoc f 0 (take i ps) (getD ps i d) in
+      record { few = omega arith; there = omega arith; same = keeps ∙ l .same; puts = rw all (at-most (most * (i + 1)) (omega arith) (both (l .puts) q)) }
+
+  pub lining-end : length (take count ps) ≤ i → Puts (most * length ps) (pieces (λ (k : ℕ) (p : P). f p) 0 (take count ps)) from s at buf
+  lining-end h =
+      let all : take count ps ≡ take i ps = sym (take-all i (take count ps) h) ∙ take-take i count ps (l .few) in
+      let room : most * i ≤ most * length ps = mul-le-mul-left most (l .there) in
+      rw all (at-most (most * length ps) room (l .puts))
 
 -- ---- at the front of a buffer that has room for the most
 
