@@ -68,7 +68,7 @@ spell-length (suc fuel) (suc k) least n text small few =
     either (λ (l : List ℕ). length l ≤ suc (suc k) + length text) _ _ _ (λ _. omega arith)
     (λ _. omega (arith, spell-length fuel k (least - 1) (n / 10) (digit (n % 10) ∷ text) (div-lt-iff-lt-mul (omega arith) .1 (rw (pow-suc 10 (suc k)) at small)) (omega arith)))
 
-decimal-length : (k least n : ℕ) → n < 10 ^ k → 0 < k → least ≤ k → length (decimal least n) ≤ k
+pub decimal-length : (k least n : ℕ) → n < 10 ^ k → 0 < k → least ≤ k → length (decimal least n) ≤ k
 unfolding decimal
 decimal-length zero least n small some few = absurd (omega arith)
 decimal-length (suc k) least n small some few = omega (arith, spell-length 20 k least n [] small few)
