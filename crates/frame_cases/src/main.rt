@@ -1,10 +1,11 @@
 // Example frames, one for each of document 01's causes 1 to 10 at least, and accepted ones of both
 // kinds. Each is listed; stdout has what document 01 says of them, worked out by hand.
 use libc::STDOUT_FILENO;
+use request_listing::LISTING;
 use request_listing::list_frame;
 
 fn show(frame: &[u8]) {
-    let mut text = [0u8; 544];
+    let mut text = [0u8; LISTING];
     let length = list_frame(frame, &mut text);
     io::write_all(STDOUT_FILENO, &text[..length]);
 }

@@ -1,4 +1,3 @@
 pub mod FieldLaws
 pub mod AddressLaws
 pub mod ElementLaws
-pub mod TextLaws

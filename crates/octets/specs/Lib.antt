@@ -4,4 +4,3 @@ pub mod Fields
 pub mod Addresses
 pub mod Elements
 pub mod Times
-pub mod Text

@@ -1,18 +1,19 @@
 // The octets that every layer reads and writes (document 01, "Frames and elements" and "Why a call
-// is turned away"): numbers, refusals, fields, addresses, elements' edges, times, and text.
+// is turned away"): numbers, refusals, fields, addresses, elements' edges, times, and buffers.
 mod addresses;
+mod buffers;
 pub mod causes;
 mod counts;
 mod elements;
 mod fields;
 pub mod numbers;
 mod refusals;
-mod text;
 mod times;
 
 pub use addresses::address_at;
 pub use addresses::is_group;
 pub use addresses::same_address;
+pub use buffers::put;
 pub use counts::least;
 pub use counts::less_one;
 pub use elements::piece_end;
@@ -25,7 +26,4 @@ pub use fields::size;
 pub use numbers::Kind;
 pub use numbers::kind_of;
 pub use refusals::Refusal;
-pub use text::put;
-pub use text::put_decimal;
-pub use text::put_hex;
 pub use times::good_time;

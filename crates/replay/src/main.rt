@@ -1,15 +1,19 @@
 // Replays a recorded list of calls from standard input, and prints each answer. The format of the
 // records and the text of each line are those of traces.
 use libc::STDIN_FILENO;
+use libc::STDOUT_FILENO;
 use octets::least;
 use octets::octet;
-use printing::print;
-use printing::print_frame;
+use report_listing::LISTING;
+use report_listing::list_report;
 use request_writer::Written;
 use request_writer::write_request;
 use requesters::Answer;
 use station::Outcome;
 use station::Station;
+use traces::BUFFER;
+use traces::BUFFER_LINE;
+use traces::LINE;
 use traces::ReportCall;
 use traces::WriterCall;
 use traces::addresses_at;
@@ -30,27 +34,29 @@ use traces::writer_call_at;
 // A trace has at most so many octets.
 const LONGEST: usize = 262144;
 
-const LINE: usize = 64;
-
-// `buffer `, 4,096 octets in hexadecimal, and a line feed.
-const BUFFER_LINE: usize = 8200;
-
 fn print_answer(answer: Answer) {
     let mut line = [0u8; LINE];
-    let n = put_answer(&mut line, 0, answer);
-    print(&line, n);
+    let n = put_answer(&mut line, answer);
+    io::write_all(STDOUT_FILENO, &line[..n]);
 }
 
-fn print_buffer(o: &[u8]) {
+// The first n octets of a lent buffer.
+fn print_buffer(buf: &[u8; BUFFER], n: usize) {
     let mut line = [0u8; BUFFER_LINE];
-    let n = put_buffer(&mut line, 0, o);
-    print(&line, n);
+    let length = put_buffer(&mut line, buf, n);
+    io::write_all(STDOUT_FILENO, &line[..length]);
 }
 
 fn print_trace_refusal(place: usize) {
     let mut line = [0u8; LINE];
-    let n = put_trace_refusal(&mut line, 0, place);
-    print(&line, n);
+    let n = put_trace_refusal(&mut line, place);
+    io::write_all(STDOUT_FILENO, &line[..n]);
+}
+
+fn print_report(destination: [u8; 6], frame: &[u8]) {
+    let mut text = [0u8; LISTING];
+    let n = list_report(destination, frame, &mut text);
+    io::write_all(STDOUT_FILENO, &text[..n]);
 }
 
 // The answer of an outcome printed, and its station.
@@ -98,17 +104,17 @@ fn report_into(g: Station, c: ReportCall, buf: &mut [u8]) -> Station {
     let reading = c.reading;
     let requester = c.requester;
     let kind = c.kind;
-    let station = after(g.report(reading, requester, kind, buf));
-    print_buffer(buf);
-    station
+    after(g.report(reading, requester, kind, buf))
 }
 
 fn report(g: Station, s: &[u8], at: usize) -> Station {
     let c = report_call_at(s, at);
     let fill = c.fill;
-    let n = least(c.length as usize, 4096);
-    let mut buf = [fill; 4096];
-    report_into(g, c, &mut buf[..n])
+    let n = least(c.length as usize, BUFFER);
+    let mut buf = [fill; BUFFER];
+    let station = report_into(g, c, &mut buf[..n]);
+    print_buffer(&buf, n);
+    station
 }
 
 fn roam(g: Station, s: &[u8], at: usize) -> Station {
@@ -141,21 +147,21 @@ fn write_into(s: &[u8], c: WriterCall, buf: &mut [u8]) {
     let elements = e.elements;
     let w = write_request(kind, c.dialog, elements, c.count as usize, buf);
     print_answer(answer_of(w));
-    print_buffer(buf);
 }
 
 fn write(s: &[u8], at: usize) {
     let c = writer_call_at(s, at);
     let fill = c.fill;
-    let n = least(c.length as usize, 4096);
-    let mut buf = [fill; 4096];
+    let n = least(c.length as usize, BUFFER);
+    let mut buf = [fill; BUFFER];
     write_into(s, c, &mut buf[..n]);
+    print_buffer(&buf, n);
 }
 
 fn read(s: &[u8], at: usize) {
     let c = reader_call_at(s, at);
     let destination = c.destination;
-    print_frame(destination, part(s, c.from, c.to));
+    print_report(destination, part(s, c.from, c.to));
 }
 
 // The call of the record at a position; the station after it.

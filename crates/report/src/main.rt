@@ -1,18 +1,14 @@
 // Lists one report frame from standard input: six octets of destination, then the frame.
 use libc::STDIN_FILENO;
-use octets::Refusal;
-use octets::address_at;
-use octets::causes;
-use printing::print_frame;
-use printing::print_refusal;
+use libc::STDOUT_FILENO;
+use report_listing::LISTING;
+use report_listing::list_input;
 
 fn main() {
+    // One octet more than the longest input has, so that a longer one is seen to be longer.
     let mut input = [0u8; 2311];
     let n = io::read_full(STDIN_FILENO, &mut input);
-    if n < 6 {
-        print_refusal(Refusal::new(causes::BAD_FRAME_LENGTH, 0));
-        return;
-    }
-    let destination = address_at(&input, 0);
-    print_frame(destination, &input[6..n]);
+    let mut text = [0u8; LISTING];
+    let length = list_input(&input[..n], &mut text);
+    io::write_all(STDOUT_FILENO, &text[..length]);
 }

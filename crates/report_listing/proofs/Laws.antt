@@ -1,73 +1,160 @@
--- Laws of words: written one list behind another; where there is room for all, they are written whole.
+-- Laws of the listing: its time fields, the lines of the elements that the cursor hands out, and how long they are at most; what is read of a frame that is not refused.
 -- Assumes nothing.
-use Prim.Native.Nat.{ℕ, _+_, _≤_}
+use Prim.Native.Nat.{ℕ, _+_, _*_, _-_, _≤_, _<_}
 use mathlib.Core.Path.{_≡_, refl, sym, ap, _∙_}
-use mathlib.Core.List.{List, [], _∷_, _++_, append-assoc}
-use native.Mathlib.Nat.{add-zero}
+use mathlib.Core.Bool.{Bool, true, false}
+use mathlib.Core.List.{List, [], _∷_, _++_, append-nil}
 use native.Mathlib.Omega.{arith}
-use lib.ListN.{length, take, drop, length-append, length-drop, take-append-drop}
-use lib.Seq.{take-at, drop-at, drop-drop, length-take-le}
-use Rattle.laws.specs.Buffers.{onto, wrote, putAt}
-use Rattle.laws.proofs.Buffers.{put-at-fits}
-use Rattle.report_listing.specs.Listing.{putWords, joined}
+use lib.ListN.{length, length-append}
+use lib.Dec.{eqb, ltb}
+use borrow.Author.Tests.{eq-eqb, ne-eqb, eqb-true, eqb-false, ltb-false, not-true, not-false}
+use Rattle.laws.specs.Choice.{if_then_else_}
+use Rattle.laws.specs.Buffers.{pieces, wrote, putAt}
+use Rattle.laws.proofs.Choice.{either, never}
+use Rattle.laws.proofs.Pieces.{pieces-snoc}
+use Rattle.laws.proofs.Walk.{Rest, start, done, last, again, go-on, stop-refused, stop-end}
+use Rattle.octets.specs.declared.numbers.Kind.{Kind}
+use Rattle.octets.specs.declared.numbers.Kind.the-variants.{Event, Diagnostic}
+use Rattle.octets.specs.Refusals.{noRefusal}
+use Rattle.texts.specs.Text.{text, decimal, Puts}
+use Rattle.texts.proofs.NumberLaws.{decimal-length}
+use Rattle.texts.proofs.PutLaws.{one, at-most, nothing, both}
+use Rattle.report_reader.specs.declared.Step.{Step}
+use Rattle.report_reader.specs.declared.Report.{Report}
+use Rattle.report_reader.specs.Reader.{stepAt, readReport, reportOf, judge, judgedReport, ElementRead, elementReadAt, Reading, reading, gathered, unread, readStep, readElements}
+use Rattle.report_reader.proofs.Laws.{Forward, goes-on, Extent, found-extent, agrees}
+use Rattle.report_listing.specs.Listing.{timeField, elementLine, elementLines}
+use Rattle.report_listing.specs.Internal.{tailMost, stepLine, stepMost}
 
-words-append : (a b : List (List ℕ)) (at : ℕ) (s : List ℕ) → putWords (a ++ b) at s ≡ putWords b (putWords a at s .answer) (putWords a at s .octets)
-unfolding putWords
-words-append [] b at s = refl
-words-append (o ∷ a) b at s = words-append a b (putAt o at s .answer) (putAt o at s .octets)
+-- ---- a time field
 
-module _ (at n m : ℕ) (s y z : List ℕ) where
-  -- words and then others
-  pub words-then : (a b : List (List ℕ)) → wrote n y ≡ putWords a at s → wrote m z ≡ putWords b n y → wrote m z ≡ putWords (a ++ b) at s
-  words-then a b p q = q ∙ rw (words-append a b at s, ← p)
+module _ (front : List ℕ) (digits ones k at n : ℕ) (s y : List ℕ) where
+  pub time-unknown : k ≡ ones → wrote n y ≡ putAt (front ++ text "?") at s → Puts (length front + 5) (timeField front digits ones k) at s n y
+  unfolding timeField if_then_else_
+  time-unknown e does = rw (eq-eqb k ones e) (at-most (length front + 5) (omega (arith, length-append front (text "?"))) (one does))
 
-  -- a word, and one more
-  pub words-two : (o r : List ℕ) → wrote n y ≡ putAt o at s → wrote m z ≡ putAt r n y → wrote m z ≡ putWords (o ∷ r ∷ []) at s
-  unfolding putWords
-  words-two o r p q = q ∙ rw (← p)
+  pub time-known : (k ≡ ones → ⊥) → k < 65536 → digits ≤ 5 → wrote n y ≡ putAt (front ++ decimal digits k) at s → Puts (length front + 5) (timeField front digits ones k) at s n y
+  unfolding timeField if_then_else_
+  time-known e small few does =
+      rw (ne-eqb k ones e) (at-most (length front + 5) (omega (arith, length-append front (decimal digits k), decimal-length 5 digits k (omega arith) (omega arith) few)) (one does))
 
-pub words-one : (at n : ℕ) (s y o : List ℕ) → wrote n y ≡ putAt o at s → wrote n y ≡ putWords (o ∷ []) at s
-unfolding putWords
-words-one at n s y o p = p
+-- ---- how long a line is at most: 14 octets for each octet that its element takes of the frame
 
--- ---- where there is room for all, they are written whole
+pub tail-most : (b : Bool) → 26 ≤ tailMost b
+tail-most true = omega arith
+tail-most false = omega arith
 
-module _ (o r : List ℕ) (at : ℕ) (s : List ℕ) (h : at + length (o ++ r) ≤ length s) where
-  fits-first : at + length o ≤ length s
-  fits-first = omega (arith, length-append o r)
+line-most : (cur : ℕ) (t : Step) → Extent cur t → 41 + tailMost (t .element .logged) + 1 ≤ 14 * (t .next .at - cur)
+line-most cur t x = go (t .element .logged) (x .event)
+  where
+    go : (b : Bool) → (b ≡ true → t .next .at ≡ cur + 35) → 41 + tailMost b + 1 ≤ 14 * (t .next .at - cur)
+    go true f = omega (arith, f refl)
+    go false f = omega (arith, x .least)
 
-  abbrev first-written : List ℕ
-  first-written = take at s ++ onto o (drop at s)
+-- ---- the loop over a cursor: es are handed out and written, what is left of the walk gives the rest
 
-  front-length : length (take at s ++ o) ≡ at + length o
-  front-length = length-append (take at s) o ∙ rw (length-take-le at s (omega (arith, fits-first)))
+pub record Listed (s : List ℕ) (kind : Kind) (from : ℕ) (old buf : List ℕ) (at cur : ℕ) : Type 0 where
+  pub es : List ElementRead
+  pub rest : Rest (unread (length s)) (readStep s kind) (readElements s kind) (length s - cur) (reading noRefusal cur es)
+  pub front : 3 ≤ cur
+  pub within : cur - 3 ≤ length s - 3
+  pub same : length buf ≡ length old
+  pub puts : Puts (14 * (cur - 3)) (elementLines kind es) from old at buf
 
-  split-written : first-written ≡ (take at s ++ o) ++ drop (length o) (drop at s)
-  split-written = sym (append-assoc (take at s) o (drop (length o) (drop at s)))
+pub listed-start : (s : List ℕ) (kind : Kind) (from : ℕ) (buf : List ℕ) → Listed s kind from buf buf from 3
+unfolding readElements pieces
+listed-start s kind from buf = record {
+  es = [];
+  rest = start (unread (length s)) (readStep s kind) (length s) (length s - 3) (reading noRefusal 3 []) (omega arith);
+  front = omega arith;
+  within = omega arith;
+  same = refl;
+  puts = nothing from buf;
+}
 
-  written-length : length first-written ≡ length s
-  written-length =
-      ap length split-written ∙ length-append (take at s ++ o) (drop (length o) (drop at s)) ∙ rw (front-length, length-drop (length o) (drop at s), length-drop at s) (omega (arith, fits-first))
+module _ {s : List ℕ} {kind : Kind} {from : ℕ} {old buf : List ℕ} {at cur : ℕ} (l : Listed s kind from old buf at cur) (fine : readElements s kind .refusal .number ≡ 0) where
+  pub listed-end : length s ≤ cur → Puts (14 * (length s - 3)) (elementLines kind (readElements s kind .elements)) from old at buf
+  listed-end end =
+      let e : reading noRefusal cur (l .es) ≡ readElements s kind = done (l .rest) (stop-end 0 cur (length s) refl end) in
+      rw (← e) (at-most (14 * (length s - 3)) (omega (arith, l .within)) (l .puts))
 
-  two-parts : putAt r (at + length o) first-written ≡ putAt (o ++ r) at s
-  two-parts =
-      let d : List ℕ = drop (length o) (drop at s) in
-      let m : at + length o + length r ≡ at + length (o ++ r) = omega (arith, length-append o r) in
-      let t : take (at + length o) first-written ≡ take at s ++ o = ap (take (at + length o)) split-written ∙ take-at (take at s ++ o) d (at + length o) front-length in
-      let u : drop (at + length o) first-written ≡ d = ap (drop (at + length o)) split-written ∙ drop-at (take at s ++ o) d (at + length o) front-length in
-      let v : drop (length r) d ≡ drop (length (o ++ r)) (drop at s) = drop-drop (length r) (length o) (drop at s) ∙ ap (λ (k : ℕ). drop k (drop at s)) (sym (length-append o r)) in
-      put-at-fits r (at + length o) first-written (omega (arith, written-length, length-append o r))
-      ∙ ap (λ (x : List ℕ). wrote (at + length o + length r) (x ++ onto r (drop (at + length o) first-written))) t
-      ∙ ap (λ (x : List ℕ). wrote (at + length o + length r) ((take at s ++ o) ++ (r ++ drop (length r) x))) u
-      ∙ ap (λ (x : List ℕ). wrote (at + length o + length r) ((take at s ++ o) ++ (r ++ x))) v
-      ∙ ap (λ (k : ℕ). wrote k ((take at s ++ o) ++ (r ++ drop (length (o ++ r)) (drop at s)))) m
-      ∙ ap (λ (x : List ℕ). wrote (at + length (o ++ r)) x) (append-assoc (take at s) o _ ∙ ap (λ (x : List ℕ). take at s ++ x) (sym (append-assoc o r _)))
-      ∙ sym (put-at-fits (o ++ r) at s h)
+  module _ (inside : cur < length s) (t : Step) (is : t ≡ stepAt s kind cur) where
+    goes : unread (length s) (reading noRefusal cur (l .es)) ≡ true
+    goes = go-on 0 cur (length s) refl inside
 
-pub words-fit : (ws : List (List ℕ)) (at : ℕ) (s : List ℕ) → at + length (joined ws) ≤ length s → putWords ws at s ≡ putAt (joined ws) at s
-unfolding putWords joined
-words-fit [] at s h = sym (put-at-fits [] at s h ∙ rw (add-zero at, take-append-drop at s))
-words-fit (o ∷ os) at s h =
-    rw (put-at-fits o at s (fits-first o (joined os) at s h))
-    (words-fit os (at + length o) (first-written o (joined os) at s h) (omega (arith, written-length o (joined os) at s h, length-append o (joined os)))
-    ∙ two-parts o (joined os) at s h)
+    -- no element of a frame that is not refused is
+    pub accepted : t .refusal .number ≡ 0
+    unfolding readStep gathered if_then_else_
+    accepted = go (eqb (t .refusal .number) 0) refl
+      where
+        go : (b : Bool) → eqb (t .refusal .number) 0 ≡ b → t .refusal .number ≡ 0
+        go true e = eqb-true (t .refusal .number) 0 e
+        go false e =
+            let no = eqb-false (t .refusal .number) 0 e in
+            let stops : reading (t .refusal) 0 [] ≡ readStep s kind (reading noRefusal cur (l .es)) = rw (← is, e) in
+            let all = last (l .rest) goes (omega arith) stops (stop-refused (t .refusal .number) 0 (length s) no) in
+            absurd (no (ap (λ (w : Reading). w .refusal .number) all ∙ fine))
+
+    on : Forward s cur t
+    on = goes-on s kind cur t is accepted
+
+    pub listed-next : {n : ℕ} {y : List ℕ} → length y ≡ length buf → Puts (stepMost t) (stepLine kind t) at buf n y → Listed s kind from old y n (t .next .at)
+    unfolding readStep gathered stepLine stepMost if_then_else_
+    listed-next {n} {y} keeps q = go (t .found) refl
+      where
+        go : (b : Bool) → t .found ≡ b → Listed s kind from old y n (t .next .at)
+        go true f =
+            let x : ElementRead = elementReadAt s t in
+            let e : reading noRefusal (t .next .at) (l .es ++ (x ∷ [])) ≡ readStep s kind (reading noRefusal cur (l .es)) = rw (← is, eq-eqb (t .refusal .number) 0 accepted, f) in
+            let g = on in
+            let p : Puts (41 + tailMost (t .element .logged) + 1) (elementLine kind (t .element)) at buf n y = rw f at q in
+            record {
+              es = l .es ++ (x ∷ []);
+              rest = again (length s - t .next .at) (l .rest) goes (omega (arith, g .on)) e;
+              front = omega (arith, g .on, l .front);
+              within = omega (arith, g .within);
+              same = keeps ∙ l .same;
+              puts = rw (pieces-snoc (λ (r : ElementRead). elementLine kind (r .element)) 0 (l .es) x)
+                  (at-most (14 * (t .next .at - 3)) (omega (arith, g .on, l .front, line-most cur t (found-extent s kind cur t is f))) (both (l .puts) p));
+            }
+        go false f =
+            let e : reading noRefusal (t .next .at) (l .es) ≡ readStep s kind (reading noRefusal cur (l .es)) = rw (← is, eq-eqb (t .refusal .number) 0 accepted, f) in
+            let g = on in
+            let p : Puts 0 [] at buf n y = rw f at q in
+            record {
+              es = l .es;
+              rest = again (length s - t .next .at) (l .rest) goes (omega (arith, g .on)) e;
+              front = omega (arith, g .on, l .front);
+              within = omega (arith, g .within);
+              same = keeps ∙ l .same;
+              puts = rw append-nil at (at-most (14 * (t .next .at - 3)) (omega (arith, g .on)) (both (l .puts) p));
+            }
+
+-- ---- a frame that is not refused has at most 2,304 octets, and the cursor's walk over it is not refused either
+
+pub record Readable (s : List ℕ) (kind : Kind) : Type 0 where
+  pub few : length s ≤ 2304
+  pub fine : readElements s kind .refusal .number ≡ 0
+
+abbrev IsReadable : List ℕ → Report → Type 0
+IsReadable s r = r .refusal .number ≡ 0 → Readable s (r .kind)
+
+judged-readable : (s : List ℕ) (kind : Kind) → length s ≤ 2304 → IsReadable s (judgedReport s kind)
+unfolding reportOf
+judged-readable s kind few =
+    either (IsReadable s) _ _ _ (λ p z. absurd (eqb-false (judge s kind .refusal .number) 0 (not-true _ p) z))
+    (λ p _. record { few = few; fine = rw (agrees s kind) at (eqb-true (judge s kind .refusal .number) 0 (not-false _ p)) })
+
+read-readable : (destination s : List ℕ) → IsReadable s (readReport destination s)
+unfolding readReport
+read-readable destination s =
+    either (IsReadable s) _ _ _ (λ _ z. absurd (omega arith))
+    (λ _. either (IsReadable s) _ _ _ (λ _ z. absurd (omega arith))
+    (λ _. either (IsReadable s) _ _ _ (λ _ z. absurd (omega arith))
+    (λ p. let few : length s ≤ 2304 = ltb-false 2304 (length s) p in
+    either (IsReadable s) _ _ _ (λ _ z. absurd (omega arith))
+    (λ _. either (IsReadable s) _ _ _ (λ _. judged-readable s Event few)
+    (λ _. either (IsReadable s) _ _ _ (λ _. judged-readable s Diagnostic few) (λ _ z. absurd (omega arith)))))))
+
+pub readable : (destination s : List ℕ) (r : Report) → r ≡ readReport destination s → IsReadable s r
+readable destination s r is = rw is (read-readable destination s)

@@ -1,104 +1,102 @@
--- The lines that the program `report` prints, as lists of words.
+-- The text that lists a report frame, as the program `report` prints it; every line ends in a line feed.
 -- Assumes nothing.
-use Prim.Native.Nat.{ℕ, _+_}
-use mathlib.Core.List.{List, [], _∷_, _++_}
-use lib.ListN.{getD}
-use lib.Dec.{eqb}
+use Prim.Native.Nat.{ℕ}
+use mathlib.Core.Bool.{not}
+use mathlib.Core.List.{List, [], _++_}
+use lib.ListN.{length, getD, drop}
+use lib.Dec.{eqb, ltb}
 use Rattle.laws.specs.Choice.{if_then_else_}
-use Rattle.laws.specs.Buffers.{Written, wrote, putAt}
+use Rattle.laws.specs.Buffers.{pieces}
 use Rattle.octets.specs.declared.numbers.Kind.{Kind}
 use Rattle.octets.specs.declared.numbers.Kind.the-variants.{Event as EventKind, Diagnostic}
-use Rattle.octets.specs.declared.refusals.Refusal.{Refusal}
 use Rattle.octets.specs.Numbers.{reportAction, reportId, successful}
+use Rattle.octets.specs.Refusals.{refused, frameLength}
 use Rattle.octets.specs.Fields.{pairAt}
-use Rattle.octets.specs.Text.{decimal, hex}
+use Rattle.octets.specs.Addresses.{addressAt}
+use Rattle.texts.specs.Text.{text, decimal, hexed, field, refusalLine}
 use Rattle.report_reader.specs.declared.Event.{Event}
 use Rattle.report_reader.specs.declared.Element.{Element}
 use Rattle.report_reader.specs.declared.Report.{Report}
-use Rattle.report_listing.specs.Words.{reportWord, dialogWord, elementsWord, elementWord, tokenWord, typeWord, statusWord, timeWord, sourceWord, targetWord, transitionWord, reasonWord, resultWord, sourceRcpiWord, sourceRsniWord, targetRcpiWord, targetRsniWord, restWord, subsWord, refusedWord, atWord, space, dash, colon, point, mark, newline}
+use Rattle.report_reader.specs.Reader.{readReport, ElementRead, readElements}
 
--- words one behind the other, behind the first `at` octets of a buffer: each whole, or not at all where it does not fit
-unfoldable pub putWords : List (List ℕ) → ℕ → List ℕ → Written
-putWords [] at s = wrote at s
-putWords (o ∷ os) at s = putWords os (putAt o at s .answer) (putAt o at s .octets)
-
--- what they are where there is room for all (proofs/Laws.antt: words-fit)
-unfoldable pub joined : List (List ℕ) → List ℕ
-joined [] = []
-joined (o ∷ os) = o ++ joined os
-
--- a name and a number
-abbrev pub fieldWords : List ℕ → ℕ → List (List ℕ)
-fieldWords name n = name ∷ decimal 1 n ∷ []
+-- ---- an event
 
 -- a time field behind a text; all ones means unknown: `?`
-unfoldable pub timeField : ℕ → ℕ → ℕ → List ℕ
-timeField digits ones n = if eqb n ones then mark else decimal digits n
+unfoldable pub timeField : List ℕ → ℕ → ℕ → ℕ → List ℕ
+timeField front digits ones n = front ++ (if eqb n ones then text "?" else decimal digits n)
 
-abbrev pub timePart : List ℕ → ℕ → ℕ → ℕ → List (List ℕ)
-timePart text digits ones n = text ∷ timeField digits ones n ∷ []
+-- ` time 2026-12-31`: the time has milliseconds, second, minute, hour, day, month, year
+unfoldable pub dateText : List ℕ → List ℕ
+dateText time = timeField (text " time ") 4 65535 (pairAt time 7) ++ timeField (text "-") 2 255 (getD time 6 0) ++ timeField (text "-") 2 255 (getD time 5 0)
 
--- `2026-12-31`: the time has milliseconds, second, minute, hour, day, month, year
-unfoldable pub dateWords : List ℕ → List (List ℕ)
-dateWords time =
-    timePart timeWord 4 65535 (pairAt time 7) ++ timePart dash 2 255 (getD time 6 0) ++ timePart dash 2 255 (getD time 5 0)
+-- ` 23:59:59.999`
+unfoldable pub clockText : List ℕ → List ℕ
+clockText time =
+    timeField (text " ") 2 255 (getD time 4 0) ++ timeField (text ":") 2 255 (getD time 3 0) ++ timeField (text ":") 2 255 (getD time 2 0) ++ timeField (text ".") 3 65535 (pairAt time 0)
 
--- `23:59:59.999`
-unfoldable pub clockWords : List ℕ → List (List ℕ)
-clockWords time =
-    timePart space 2 255 (getD time 4 0) ++ timePart colon 2 255 (getD time 3 0) ++ timePart colon 2 255 (getD time 2 0) ++ timePart point 3 65535 (pairAt time 0)
-
-unfoldable pub timeWords : List ℕ → List (List ℕ)
-timeWords time = dateWords time ++ clockWords time
+unfoldable pub timeText : List ℕ → List ℕ
+timeText time = dateText time ++ clockText time
 
 -- an address behind a name: `02:01:01:01:01:01`
-abbrev pub hexPart : List ℕ → ℕ → List (List ℕ)
-hexPart text x = text ∷ hex x ∷ []
+unfoldable pub addressText : List ℕ → List ℕ → List ℕ
+addressText name a =
+    hexed name (getD a 0 0) ++ hexed (text ":") (getD a 1 0) ++ hexed (text ":") (getD a 2 0) ++ hexed (text ":") (getD a 3 0) ++ hexed (text ":") (getD a 4 0) ++ hexed (text ":") (getD a 5 0)
 
-unfoldable pub addressWords : List ℕ → List ℕ → List (List ℕ)
-addressWords name a =
-    hexPart name (getD a 0 0) ++ hexPart colon (getD a 1 0) ++ hexPart colon (getD a 2 0) ++ hexPart colon (getD a 3 0) ++ hexPart colon (getD a 4 0) ++ hexPart colon (getD a 5 0)
+unfoldable pub signalsText : List ℕ → List ℕ
+signalsText signals =
+    field " source-rcpi " (getD signals 0 0) ++ field " source-rsni " (getD signals 1 0) ++ field " target-rcpi " (getD signals 2 0) ++ field " target-rsni " (getD signals 3 0)
 
-unfoldable pub signalWords : List ℕ → List (List ℕ)
-signalWords signals =
-    fieldWords sourceRcpiWord (getD signals 0 0) ++ fieldWords sourceRsniWord (getD signals 1 0) ++ fieldWords targetRcpiWord (getD signals 2 0) ++ fieldWords targetRsniWord (getD signals 3 0)
+unfoldable pub eventText : Event → List ℕ
+eventText e =
+    timeText (e .time) ++ addressText (text " source ") (e .source) ++ addressText (text " target ") (e .target)
+    ++ field " transition " (e .took .0)
+    ++ field " reason " (e .reason)
+    ++ field " result " (e .result)
+    ++ signalsText (e .signals)
 
-unfoldable pub eventWords : Event → List (List ℕ)
-eventWords e =
-    timeWords (e .time) ++ addressWords sourceWord (e .source) ++ addressWords targetWord (e .target) ++ fieldWords transitionWord (e .took .0)
-    ++ fieldWords reasonWord (e .reason)
-    ++ fieldWords resultWord (e .result)
-    ++ signalWords (e .signals)
+-- ---- an element
 
 -- "For status 0 of other event types the rest is kept unread."
-unfoldable pub unreadWords : ℕ → ℕ → List (List ℕ)
-unreadWords ty n = if eqb ty 0 then [] else fieldWords restWord n
+unfoldable pub unreadText : ℕ → ℕ → List ℕ
+unreadText ty n = if eqb ty 0 then [] else field " rest " n
 
-unfoldable pub eventTail : Element → List (List ℕ)
+unfoldable pub eventTail : Element → List ℕ
 eventTail e =
-    if e .logged then eventWords (e .event)
-    else if eqb (e .status) successful then unreadWords (e .ty) (e .length)
+    if e .logged then eventText (e .event)
+    else if eqb (e .status) successful then unreadText (e .ty) (e .length)
     else []
 
-abbrev pub tailWords : Kind → Element → List (List ℕ)
-tailWords EventKind e = eventTail e
-tailWords Diagnostic e = fieldWords subsWord (e .subs)
+unfoldable pub tailText : Kind → Element → List ℕ
+tailText EventKind e = eventTail e
+tailText Diagnostic e = field " subs " (e .subs)
 
-unfoldable pub headWords : Kind → Element → List (List ℕ)
-headWords kind e =
-    fieldWords elementWord (reportId kind) ++ fieldWords tokenWord (e .token) ++ fieldWords typeWord (e .ty) ++ fieldWords statusWord (e .status)
-
--- ---- the lines
+unfoldable pub headText : Kind → Element → List ℕ
+headText kind e = field "element " (reportId kind) ++ field " token " (e .token) ++ field " type " (e .ty) ++ field " status " (e .status)
 
 -- `element 79 token 5 type 0 status 0`, and what the element has behind its status
-unfoldable pub elementLine : Kind → Element → List (List ℕ)
-elementLine kind e = headWords kind e ++ tailWords kind e ++ (newline ∷ [])
+unfoldable pub elementLine : Kind → Element → List ℕ
+elementLine kind e = headText kind e ++ tailText kind e ++ text "\n"
+
+-- ---- a frame
+
+abbrev pub elementLines : Kind → List ElementRead → List ℕ
+elementLines kind es = pieces (λ (i : ℕ) (e : ElementRead). elementLine kind (e .element)) 0 es
 
 -- `report 1 dialog 7 elements 1`
-unfoldable pub reportLine : Report → List (List ℕ)
-reportLine r =
-    fieldWords reportWord (reportAction (r .kind)) ++ fieldWords dialogWord (r .dialog) ++ fieldWords elementsWord (r .count) ++ (newline ∷ [])
+unfoldable pub reportLine : Report → List ℕ
+reportLine r = field "report " (reportAction (r .kind)) ++ field " dialog " (r .dialog) ++ field " elements " (r .count) ++ text "\n"
 
--- `refused 7 at 8`
-unfoldable pub refusalLine : Refusal → List (List ℕ)
-refusalLine r = fieldWords refusedWord (r .number) ++ fieldWords atWord (r .place) ++ (newline ∷ [])
+-- a report that was read of a frame: the refusal, or the first line and one line for each element that the cursor hands out
+unfoldable pub reportListing : List ℕ → Report → List ℕ
+reportListing s r =
+    if not (eqb (r .refusal .number) 0) then refusalLine (r .refusal)
+    else reportLine r ++ elementLines (r .kind) (readElements s (r .kind) .elements)
+
+abbrev pub listing : List ℕ → List ℕ → List ℕ
+listing destination s = reportListing s (readReport destination s)
+
+-- the program's input: six octets of destination, then the frame
+unfoldable pub inputListing : List ℕ → List ℕ
+inputListing input =
+    if ltb (length input) 6 then refusalLine (refused frameLength 0)
+    else listing (addressAt input 0) (drop 6 input)

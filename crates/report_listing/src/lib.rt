@@ -1,116 +1,103 @@
-// The lines that the program `report` prints: each is put behind the first `at` octets of a buffer,
-// word by word; the answer is the place behind them.
+// Report frames: the listing that the program `report` prints, whole, into an array that has room for
+// every one of them.
 use octets::Kind;
 use octets::Refusal;
+use octets::address_at;
+use octets::causes;
 use octets::numbers;
 use octets::pair;
 use octets::put;
-use octets::put_decimal;
-use octets::put_hex;
+use report_reader::Cursor;
 use report_reader::Element;
 use report_reader::Event;
 use report_reader::Report;
+use report_reader::Step;
+use report_reader::read_report;
+use texts::put_hex;
+use texts::put_number;
+use texts::put_octet;
+use texts::put_pair;
+use texts::put_refusal;
+use texts::put_size;
+use texts::put_two;
 ghost use mathlib.Core.Path.{_≡_};
-ghost use Rattle.laws.specs.Buffers.{wrote, putAt};
-ghost use Rattle.report_listing.specs.Listing.{putWords, fieldWords, timeField, timePart, dateWords, clockWords, timeWords, hexPart, addressWords, signalWords, eventWords, unreadWords, eventTail, tailWords, headWords, elementLine, reportLine, refusalLine};
+ghost use Prim.Native.Nat.{_+_, _*_, _-_, _≤_};
+ghost use lib.ListN.{length};
+ghost use Rattle.laws.specs.Buffers.{wrote};
+ghost use Rattle.texts.specs.Text.{Puts, written, Within};
+ghost use Rattle.report_reader.specs.Reader.{readElements};
+ghost use Rattle.report_listing.specs.Listing.{timeField, dateText, clockText, timeText, addressText, signalsText, eventText, unreadText, eventTail, tailText, headText, elementLine, elementLines, reportLine, listing, inputListing};
+ghost use Rattle.report_listing.specs.Internal.{tailMost, stepLine, stepMost};
 
-// A name and a number.
-fn put_field(buf: &mut [u8], at: usize, name: &[u8], n: u64) -> usize
-    ensures { λ r. ⌜ wrote r (now (buf .exit)) ≡ putWords (fieldWords (now (name .entry)) n) at (now (buf .entry)) ⌝ }
-{
-    let next = put(buf, at, name);
-    put_decimal(buf, next, n, 1)
-}
+// What the longest listing has at most: 52 octets for the first line, and 14 for each octet that the
+// elements take of a frame.
+pub const LISTING: usize = 32266;
 
-// A time field, `?` where it is all ones.
-fn put_known(buf: &mut [u8], at: usize, digits: usize, ones: u16, n: u16) -> usize
-    ensures { λ r. ⌜ wrote r (now (buf .exit)) ≡ putAt (timeField digits ones n) at (now (buf .entry)) ⌝ }
+// ---- an element
+
+// A time field behind a text, `?` where it is all ones.
+fn put_time_field(
+    buf: &mut [u8],
+    at: usize,
+    front: &[u8],
+    digits: usize,
+    ones: u16,
+    n: u16,
+) -> usize
+    requires { ⌜ digits ≤ 5 ⌝ }
+    ensures { λ r. ⌜ Puts (length (now (front .entry)) + 5) (timeField (now (front .entry)) digits ones n) at (now (buf .entry)) r (now (buf .exit)) ⌝ }
 {
     if n == ones {
-        return put(buf, at, b"?");
+        return put_two(buf, at, front, b"?");
     }
-    put_decimal(buf, at, n as u64, digits)
+    put_number(buf, at, front, n as u64, digits)
 }
 
-// A time field of two octets, behind a text.
-fn put_time_pair(buf: &mut [u8], at: usize, text: &[u8], digits: usize, n: u16) -> usize
-    ensures { λ r. ⌜ wrote r (now (buf .exit)) ≡ putWords (timePart (now (text .entry)) digits 65535 n) at (now (buf .entry)) ⌝ }
+// One of one octet.
+fn put_time_octet(buf: &mut [u8], at: usize, front: &[u8], n: u8) -> usize
+    ensures { λ r. ⌜ Puts (length (now (front .entry)) + 5) (timeField (now (front .entry)) 2 255 n) at (now (buf .entry)) r (now (buf .exit)) ⌝ }
 {
-    let next = put(buf, at, text);
-    put_known(buf, next, digits, 65535, n)
-}
-
-// A time field of one octet, behind a text.
-fn put_time_octet(buf: &mut [u8], at: usize, text: &[u8], n: u8) -> usize
-    ensures { λ r. ⌜ wrote r (now (buf .exit)) ≡ putWords (timePart (now (text .entry)) 2 255 n) at (now (buf .entry)) ⌝ }
-{
-    let next = put(buf, at, text);
-    put_known(buf, next, 2, 255, n as u16)
+    put_time_field(buf, at, front, 2, 255, n as u16)
 }
 
 fn put_date(buf: &mut [u8], at: usize, time: [u8; 9]) -> usize
-    ensures { λ r. ⌜ wrote r (now (buf .exit)) ≡ putWords (dateWords time) at (now (buf .entry)) ⌝ }
+    ensures { λ r. ⌜ Puts 23 (dateText time) at (now (buf .entry)) r (now (buf .exit)) ⌝ }
 {
-    let next = put_time_pair(buf, at, b" time ", 4, pair(time[7], time[8]));
+    let next = put_time_field(buf, at, b" time ", 4, 65535, pair(time[7], time[8]));
     let next = put_time_octet(buf, next, b"-", time[6]);
     put_time_octet(buf, next, b"-", time[5])
 }
 
 fn put_clock(buf: &mut [u8], at: usize, time: [u8; 9]) -> usize
-    ensures { λ r. ⌜ wrote r (now (buf .exit)) ≡ putWords (clockWords time) at (now (buf .entry)) ⌝ }
+    ensures { λ r. ⌜ Puts 24 (clockText time) at (now (buf .entry)) r (now (buf .exit)) ⌝ }
 {
     let next = put_time_octet(buf, at, b" ", time[4]);
     let next = put_time_octet(buf, next, b":", time[3]);
     let next = put_time_octet(buf, next, b":", time[2]);
-    put_time_pair(buf, next, b".", 3, pair(time[0], time[1]))
+    put_time_field(buf, next, b".", 3, 65535, pair(time[0], time[1]))
 }
 
 fn put_time(buf: &mut [u8], at: usize, time: [u8; 9]) -> usize
-    ensures { λ r. ⌜ wrote r (now (buf .exit)) ≡ putWords (timeWords time) at (now (buf .entry)) ⌝ }
+    ensures { λ r. ⌜ Puts 47 (timeText time) at (now (buf .entry)) r (now (buf .exit)) ⌝ }
 {
     let next = put_date(buf, at, time);
     put_clock(buf, next, time)
 }
 
-fn put_hex_part(buf: &mut [u8], at: usize, text: &[u8], x: u8) -> usize
-    ensures { λ r. ⌜ wrote r (now (buf .exit)) ≡ putWords (hexPart (now (text .entry)) x) at (now (buf .entry)) ⌝ }
-{
-    let next = put(buf, at, text);
-    put_hex(buf, next, x)
-}
-
-// An address, behind a name.
+// An address behind a name.
 fn put_address(buf: &mut [u8], at: usize, name: &[u8], a: [u8; 6]) -> usize
-    ensures { λ r. ⌜ wrote r (now (buf .exit)) ≡ putWords (addressWords (now (name .entry)) a) at (now (buf .entry)) ⌝ }
+    ensures { λ r. ⌜ Puts (length (now (name .entry)) + 17) (addressText (now (name .entry)) a) at (now (buf .entry)) r (now (buf .exit)) ⌝ }
 {
-    let next = put_hex_part(buf, at, name, a[0]);
-    let next = put_hex_part(buf, next, b":", a[1]);
-    let next = put_hex_part(buf, next, b":", a[2]);
-    let next = put_hex_part(buf, next, b":", a[3]);
-    let next = put_hex_part(buf, next, b":", a[4]);
-    put_hex_part(buf, next, b":", a[5])
-}
-
-fn put_small(buf: &mut [u8], at: usize, name: &[u8], n: u16) -> usize
-    ensures { λ r. ⌜ wrote r (now (buf .exit)) ≡ putWords (fieldWords (now (name .entry)) n) at (now (buf .entry)) ⌝ }
-{
-    put_field(buf, at, name, n as u64)
-}
-
-fn put_octet(buf: &mut [u8], at: usize, name: &[u8], n: u8) -> usize
-    ensures { λ r. ⌜ wrote r (now (buf .exit)) ≡ putWords (fieldWords (now (name .entry)) n) at (now (buf .entry)) ⌝ }
-{
-    put_field(buf, at, name, n as u64)
-}
-
-fn put_size(buf: &mut [u8], at: usize, name: &[u8], n: usize) -> usize
-    ensures { λ r. ⌜ wrote r (now (buf .exit)) ≡ putWords (fieldWords (now (name .entry)) n) at (now (buf .entry)) ⌝ }
-{
-    put_field(buf, at, name, n as u64)
+    let next = put_hex(buf, at, name, a[0]);
+    let next = put_hex(buf, next, b":", a[1]);
+    let next = put_hex(buf, next, b":", a[2]);
+    let next = put_hex(buf, next, b":", a[3]);
+    let next = put_hex(buf, next, b":", a[4]);
+    put_hex(buf, next, b":", a[5])
 }
 
 fn put_signals(buf: &mut [u8], at: usize, signals: [u8; 4]) -> usize
-    ensures { λ r. ⌜ wrote r (now (buf .exit)) ≡ putWords (signalWords signals) at (now (buf .entry)) ⌝ }
+    ensures { λ r. ⌜ Puts 64 (signalsText signals) at (now (buf .entry)) r (now (buf .exit)) ⌝ }
 {
     let next = put_octet(buf, at, b" source-rcpi ", signals[0]);
     let next = put_octet(buf, next, b" source-rsni ", signals[1]);
@@ -119,7 +106,7 @@ fn put_signals(buf: &mut [u8], at: usize, signals: [u8; 4]) -> usize
 }
 
 fn put_event(buf: &mut [u8], at: usize, e: Event) -> usize
-    ensures { λ r. ⌜ wrote r (now (buf .exit)) ≡ putWords (eventWords e) at (now (buf .entry)) ⌝ }
+    ensures { λ r. ⌜ Puts 202 (eventText e) at (now (buf .entry)) r (now (buf .exit)) ⌝ }
 {
     let time = e.time;
     let source = e.source;
@@ -128,15 +115,15 @@ fn put_event(buf: &mut [u8], at: usize, e: Event) -> usize
     let next = put_time(buf, at, time);
     let next = put_address(buf, next, b" source ", source);
     let next = put_address(buf, next, b" target ", target);
-    let next = put_small(buf, next, b" transition ", e.took.0);
+    let next = put_pair(buf, next, b" transition ", e.took.0);
     let next = put_octet(buf, next, b" reason ", e.reason);
-    let next = put_small(buf, next, b" result ", e.result);
+    let next = put_pair(buf, next, b" result ", e.result);
     put_signals(buf, next, signals)
 }
 
 // The octets of other event types, kept unread.
 fn put_unread(buf: &mut [u8], at: usize, ty: u8, n: usize) -> usize
-    ensures { λ r. ⌜ wrote r (now (buf .exit)) ≡ putWords (unreadWords ty n) at (now (buf .entry)) ⌝ }
+    ensures { λ r. ⌜ Puts 26 (unreadText ty n) at (now (buf .entry)) r (now (buf .exit)) ⌝ }
 {
     match ty {
         0 => at,
@@ -146,7 +133,7 @@ fn put_unread(buf: &mut [u8], at: usize, ty: u8, n: usize) -> usize
 
 // What an event report has behind its status.
 fn put_event_tail(buf: &mut [u8], at: usize, e: Element) -> usize
-    ensures { λ r. ⌜ wrote r (now (buf .exit)) ≡ putWords (eventTail e) at (now (buf .entry)) ⌝ }
+    ensures { λ r. ⌜ Puts (tailMost (e .logged)) (eventTail e) at (now (buf .entry)) r (now (buf .exit)) ⌝ }
 {
     if e.logged {
         let event = e.event;
@@ -159,7 +146,7 @@ fn put_event_tail(buf: &mut [u8], at: usize, e: Element) -> usize
 }
 
 fn put_tail(buf: &mut [u8], at: usize, kind: Kind, e: Element) -> usize
-    ensures { λ r. ⌜ wrote r (now (buf .exit)) ≡ putWords (tailWords kind e) at (now (buf .entry)) ⌝ }
+    ensures { λ r. ⌜ Puts (tailMost (e .logged)) (tailText kind e) at (now (buf .entry)) r (now (buf .exit)) ⌝ }
 {
     match kind {
         Kind::Event => put_event_tail(buf, at, e),
@@ -168,7 +155,7 @@ fn put_tail(buf: &mut [u8], at: usize, kind: Kind, e: Element) -> usize
 }
 
 fn put_head(buf: &mut [u8], at: usize, kind: Kind, e: Element) -> usize
-    ensures { λ r. ⌜ wrote r (now (buf .exit)) ≡ putWords (headWords kind e) at (now (buf .entry)) ⌝ }
+    ensures { λ r. ⌜ Puts 41 (headText kind e) at (now (buf .entry)) r (now (buf .exit)) ⌝ }
 {
     let next = put_octet(buf, at, b"element ", kind.report_id());
     let next = put_octet(buf, next, b" token ", e.token);
@@ -177,17 +164,46 @@ fn put_head(buf: &mut [u8], at: usize, kind: Kind, e: Element) -> usize
 }
 
 // The line of an element.
-pub fn put_element(buf: &mut [u8], at: usize, kind: Kind, e: Element) -> usize
-    ensures { λ r. ⌜ wrote r (now (buf .exit)) ≡ putWords (elementLine kind e) at (now (buf .entry)) ⌝ }
+fn put_element(buf: &mut [u8], at: usize, kind: Kind, e: Element) -> usize
+    ensures { λ r. ⌜ Puts (41 + tailMost (e .logged) + 1) (elementLine kind e) at (now (buf .entry)) r (now (buf .exit)) ⌝ }
 {
     let next = put_head(buf, at, kind, e);
     let next = put_tail(buf, next, kind, e);
     put(buf, next, b"\n")
 }
 
+// ---- a frame
+
+// The line of what stands at a cursor; elements of another ID have none.
+fn put_step(buf: &mut [u8], at: usize, kind: Kind, step: Step) -> usize
+    ensures { λ r. ⌜ Puts (stepMost step) (stepLine kind step) at (now (buf .entry)) r (now (buf .exit)) ⌝ }
+{
+    if step.found {
+        let element = step.element;
+        return put_element(buf, at, kind, element);
+    }
+    at
+}
+
+// The lines of all elements of a frame that is not refused.
+fn put_elements(buf: &mut [u8], from: usize, s: &[u8], kind: Kind) -> usize
+    requires { ⌜ readElements (now s) kind .refusal .number ≡ 0 ⌝ }
+    ensures { λ r. ⌜ Puts (14 * (length (now (s .entry)) - 3)) (elementLines kind (readElements (now (s .entry)) kind .elements)) from (now (buf .entry)) r (now (buf .exit)) ⌝ }
+{
+    let mut at = from;
+    let mut cursor = Cursor::first();
+    while cursor.at < s.len() {
+        let step = cursor.next(s, kind);
+        at = put_step(buf, at, kind, step);
+        let next = step.next;
+        cursor = next;
+    }
+    at
+}
+
 // The first line of a frame that is not refused.
-pub fn put_report(buf: &mut [u8], at: usize, r: Report) -> usize
-    ensures { λ out. ⌜ wrote out (now (buf .exit)) ≡ putWords (reportLine r) at (now (buf .entry)) ⌝ }
+fn put_report(buf: &mut [u8], at: usize, r: Report) -> usize
+    ensures { λ n. ⌜ Puts 52 (reportLine r) at (now (buf .entry)) n (now (buf .exit)) ⌝ }
 {
     let kind = r.kind;
     let next = put_octet(buf, at, b"report ", kind.report_action());
@@ -196,11 +212,40 @@ pub fn put_report(buf: &mut [u8], at: usize, r: Report) -> usize
     put(buf, next, b"\n")
 }
 
-// The one line of a refusal.
-pub fn put_refusal(buf: &mut [u8], at: usize, r: Refusal) -> usize
-    ensures { λ out. ⌜ wrote out (now (buf .exit)) ≡ putWords (refusalLine r) at (now (buf .entry)) ⌝ }
+fn put_listing(buf: &mut [u8], destination: [u8; 6], s: &[u8]) -> usize
+    ensures { λ n. ⌜ Puts 32266 (listing destination (now (s .entry))) 0 (now (buf .entry)) n (now (buf .exit)) ⌝ }
 {
-    let next = put_octet(buf, at, b"refused ", r.number);
-    let next = put_size(buf, next, b" at ", r.place);
-    put(buf, next, b"\n")
+    let report = read_report(destination, s);
+    let refusal = report.refusal;
+    if refusal.number != 0 {
+        return put_refusal(buf, 0, refusal);
+    }
+    let kind = report.kind;
+    let next = put_report(buf, 0, report);
+    put_elements(buf, next, s, kind)
+}
+
+// Reads a report frame for a destination and lists it; the text's length.
+pub fn list_report(destination: [u8; 6], s: &[u8], buf: &mut [u8; LISTING]) -> usize
+    ensures { λ n. ⌜ wrote n (now (buf .exit)) ≡ written (listing destination (now (s .entry))) (now (buf .entry)) ⌝ }
+    ensures { λ n. ⌜ Within 32266 n (now (buf .exit)) ⌝ }
+{
+    put_listing(buf, destination, s)
+}
+
+fn put_input(buf: &mut [u8], input: &[u8]) -> usize
+    ensures { λ n. ⌜ Puts 32266 (inputListing (now (input .entry))) 0 (now (buf .entry)) n (now (buf .exit)) ⌝ }
+{
+    if input.len() < 6 {
+        return put_refusal(buf, 0, Refusal::new(causes::BAD_FRAME_LENGTH, 0));
+    }
+    put_listing(buf, address_at(input, 0), &input[6..])
+}
+
+// Lists the input of the program `report`: six octets of destination, then the frame.
+pub fn list_input(input: &[u8], buf: &mut [u8; LISTING]) -> usize
+    ensures { λ n. ⌜ wrote n (now (buf .exit)) ≡ written (inputListing (now (input .entry))) (now (buf .entry)) ⌝ }
+    ensures { λ n. ⌜ Within 32266 n (now (buf .exit)) ⌝ }
+{
+    put_input(buf, input)
 }

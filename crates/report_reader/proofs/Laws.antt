@@ -1,4 +1,4 @@
--- Laws of the reader: a step that is not refused moves on, and not past the end; its verdict says the rest of it; where a transition stands, an element was found; the judgement agrees with the cursor's walk.
+-- Laws of the reader: a step that is not refused moves on, and not past the end; its verdict says the rest of it; where a transition stands, an element was found, and how many octets it takes; the judgement agrees with the cursor's walk.
 -- Assumes nothing.
 use Prim.Native.Nat.{ℕ, _+_, _-_, _≤_, _<_}
 use mathlib.Core.Path.{_≡_, refl}
@@ -145,6 +145,22 @@ stands-found s at (is-logged h) e = refl
 
 pub logged-found : (s : List ℕ) (kind : Kind) (at : ℕ) (t : Step) → t ≡ stepAt s kind at → t .element .logged ≡ true → t ≡ foundStep (t .element) (t .rest) (t .next .at)
 logged-found s kind at t e = rw e (stands-found s at (stands s kind at))
+
+-- ---- and an element that was found takes five octets at least, one with a transition 35
+
+pub record Extent (at : ℕ) (t : Step) : Type 0 where
+  pub least : at + 5 ≤ t .next .at
+  pub event : t .element .logged ≡ true → t .next .at ≡ at + 35
+
+stands-extends : (s : List ℕ) (at : ℕ) {t : Step} → Stands s at t → t .found ≡ true → Extent at t
+unfolding plainStep loggedStep
+stands-extends s at (is-refused n p h) e = never e
+stands-extends s at (is-skipped n on within) e = never e
+stands-extends s at (is-plain n subs few h) e = record { least = omega arith; event = never }
+stands-extends s at (is-logged h) e = record { least = omega arith; event = λ _. refl }
+
+pub found-extent : (s : List ℕ) (kind : Kind) (at : ℕ) (t : Step) → t ≡ stepAt s kind at → t .found ≡ true → Extent at t
+found-extent s kind at t e f = rw e (stands-extends s at (stands s kind at) (rw e at f))
 
 -- ---- the judgement's step moves on too, and its position bounds its count
 

@@ -1,55 +1,56 @@
-// Request frames (document 01, "The frame program"): the listing, whole, into a buffer.
+// Request frames (document 01, "The frame program"): the listing, whole, into an array that has room
+// for every one of them.
 use octets::Kind;
-use octets::Refusal;
 use octets::put;
-use octets::put_decimal;
 use requests::ELEMENT_CAPACITY;
 use requests::Element;
 use requests::Request;
 use requests::read_request;
+use texts::put_octet;
+use texts::put_pair;
+use texts::put_refusal;
+use texts::put_size;
 ghost use mathlib.Core.Path.{_≡_};
-ghost use Prim.Native.Nat.{_+_, _≤_};
-ghost use lib.ListN.{length, take};
-ghost use Rattle.laws.specs.Buffers.{wrote, putAt};
-ghost use Rattle.request_listing.specs.Listing.{field, frameLine, limitField, elementLine, refusedLine, elementLines, listed, listFrame, Within};
+ghost use lib.ListN.{take};
+ghost use Rattle.laws.specs.Buffers.{wrote};
+ghost use Rattle.texts.specs.Text.{Puts, written, Within};
+ghost use Rattle.request_listing.specs.Listing.{frameLine, limitField, elementLine, elementLines, listing};
+ghost use Rattle.requests.specs.Elements.{elementCapacity};
+ghost use Rattle.requests.specs.Requests.{readRequest};
 
-// The octets that a buffer has at least; the longest listing has fewer.
-pub const LISTING_BUFFER: usize = 544;
-
-// A word and a number behind the first `at` octets, where they fit.
-fn put_field(buf: &mut [u8], at: usize, word: &[u8], n: u64) -> usize
-    ensures { λ r. ⌜ (at + length (field (now (word .entry)) n) ≤ length (now (buf .entry)) → wrote r (now (buf .exit)) ≡ putAt (field (now (word .entry)) n) at (now (buf .entry))) ⌝ }
-{
-    let behind = put(buf, at, word);
-    put_decimal(buf, behind, n, 1)
-}
+// What the longest listing has at most: 51 octets for the first line, 56 for each of eight elements.
+pub const LISTING: usize = 499;
 
 fn put_limit(buf: &mut [u8], at: usize, kind: Kind, e: Element) -> usize
-    ensures { λ r. ⌜ (at + length (limitField kind e) ≤ length (now (buf .entry)) → wrote r (now (buf .exit)) ≡ putAt (limitField kind e) at (now (buf .entry))) ⌝ }
+    ensures { λ r. ⌜ Puts 14 (limitField kind e) at (now (buf .entry)) r (now (buf .exit)) ⌝ }
 {
     match kind {
-        Kind::Event => put_field(buf, at, b" limit ", e.limit as u64),
-        Kind::Diagnostic => put_field(buf, at, b" timeout ", e.timeout as u64),
+        Kind::Event => put_octet(buf, at, b" limit ", e.limit),
+        Kind::Diagnostic => put_pair(buf, at, b" timeout ", e.timeout),
     }
 }
 
-// The line of an element behind the first `at` octets.
+// The line of an element.
 fn put_line(buf: &mut [u8], at: usize, kind: Kind, e: Element) -> usize
-    requires { ⌜ at + 58 ≤ length (now buf) ⌝ }
-    ensures { λ r. ⌜ (wrote r (now (buf .exit)) ≡ putAt (elementLine kind e) at (now (buf .entry))) × (length (elementLine kind e) ≤ 58) ⌝ }
+    ensures { λ r. ⌜ Puts 56 (elementLine kind e) at (now (buf .entry)) r (now (buf .exit)) ⌝ }
 {
-    let id = put_field(buf, at, b"element ", kind.request_id() as u64);
-    let token = put_field(buf, id, b" token ", e.token as u64);
-    let ty = put_field(buf, token, b" type ", e.ty as u64);
-    let limit = put_limit(buf, ty, kind, e);
-    let subs = put_field(buf, limit, b" subs ", e.subs as u64);
-    put(buf, subs, b"\n")
+    let next = put_octet(buf, at, b"element ", kind.request_id());
+    let next = put_octet(buf, next, b" token ", e.token);
+    let next = put_octet(buf, next, b" type ", e.ty);
+    let next = put_limit(buf, next, kind, e);
+    let next = put_pair(buf, next, b" subs ", e.subs);
+    put(buf, next, b"\n")
 }
 
-// The lines of the elements behind the first line, which ends at from.
-fn put_lines(buf: &mut [u8], from: usize, kind: Kind, es: [Element; 8], count: usize) -> usize
-    requires { ⌜ (from ≤ 60) × (544 ≤ length (now buf)) ⌝ }
-    ensures { λ r. ⌜ (wrote r (now (buf .exit)) ≡ putAt (elementLines kind (take count es)) from (now (buf .entry))) × (length (elementLines kind (take count es)) ≤ 464) ⌝ }
+// The lines of the first elements.
+fn put_lines(
+    buf: &mut [u8],
+    from: usize,
+    kind: Kind,
+    es: [Element; ELEMENT_CAPACITY],
+    count: usize,
+) -> usize
+    ensures { λ r. ⌜ Puts 448 (elementLines kind (take count es)) from (now (buf .entry)) r (now (buf .exit)) ⌝ }
 {
     let mut at = from;
     let mut i: usize = 0;
@@ -64,49 +65,34 @@ fn put_lines(buf: &mut [u8], from: usize, kind: Kind, es: [Element; 8], count: u
     at
 }
 
-// The first line at the front of a buffer.
-fn put_frame(buf: &mut [u8], kind: Kind, dialog: u8, count: usize) -> usize
-    requires { ⌜ 544 ≤ length (now buf) ⌝ }
-    ensures { λ r. ⌜ (wrote r (now (buf .exit)) ≡ putAt (frameLine kind dialog count) 0 (now (buf .entry))) × (length (frameLine kind dialog count) ≤ 60) ⌝ }
+// The first line.
+fn put_frame(buf: &mut [u8], at: usize, kind: Kind, dialog: u8, count: usize) -> usize
+    ensures { λ r. ⌜ Puts 51 (frameLine kind dialog count) at (now (buf .entry)) r (now (buf .exit)) ⌝ }
 {
-    let action = put_field(buf, 0, b"frame ", kind.request_action() as u64);
-    let token = put_field(buf, action, b" dialog ", dialog as u64);
-    let elements = put_field(buf, token, b" elements ", count as u64);
-    put(buf, elements, b"\n")
+    let next = put_octet(buf, at, b"frame ", kind.request_action());
+    let next = put_octet(buf, next, b" dialog ", dialog);
+    let next = put_size(buf, next, b" elements ", count);
+    put(buf, next, b"\n")
 }
 
-// The line of a refusal at the front of a buffer.
-fn put_refusal(buf: &mut [u8], r: Refusal) -> usize
-    requires { ⌜ 544 ≤ length (now buf) ⌝ }
-    ensures { λ n. ⌜ (wrote n (now (buf .exit)) ≡ putAt (refusedLine r) 0 (now (buf .entry))) × (length (refusedLine r) ≤ 60) ⌝ }
+// Lists a request.
+fn put_listing(buf: &mut [u8], r: Request) -> usize
+    ensures { λ n. ⌜ Puts 499 (listing r) 0 (now (buf .entry)) n (now (buf .exit)) ⌝ }
 {
-    let number = put_field(buf, 0, b"refused ", r.number as u64);
-    let place = put_field(buf, number, b" at ", r.place as u64);
-    put(buf, place, b"\n")
-}
-
-// Lists a request at the front of a buffer; the text's length.
-pub fn list_request(r: Request, buf: &mut [u8]) -> usize
-    ensures { λ n. ⌜ wrote n (now (buf .exit)) ≡ listed r (now (buf .entry)) ⌝ }
-    ensures { λ n. ⌜ Within n (now (buf .exit)) ⌝ }
-{
-    if buf.len() < LISTING_BUFFER {
-        return 0;
-    }
     if r.refusal.number != 0 {
         let refusal = r.refusal;
-        return put_refusal(buf, refusal);
+        return put_refusal(buf, 0, refusal);
     }
     let kind = r.kind;
     let elements = r.elements;
-    let from = put_frame(buf, kind, r.dialog, r.count);
-    put_lines(buf, from, kind, elements, r.count)
+    let next = put_frame(buf, 0, kind, r.dialog, r.count);
+    put_lines(buf, next, kind, elements, r.count)
 }
 
-// Reads a frame and lists it.
-pub fn list_frame(frame: &[u8], buf: &mut [u8]) -> usize
-    ensures { λ n. ⌜ wrote n (now (buf .exit)) ≡ listFrame (now (frame .entry)) (now (buf .entry)) ⌝ }
-    ensures { λ n. ⌜ Within n (now (buf .exit)) ⌝ }
+// Reads a frame and lists it; the text's length.
+pub fn list_frame(frame: &[u8], buf: &mut [u8; LISTING]) -> usize
+    ensures { λ n. ⌜ wrote n (now (buf .exit)) ≡ written (listing (readRequest elementCapacity (now (frame .entry)))) (now (buf .entry)) ⌝ }
+    ensures { λ n. ⌜ Within 499 n (now (buf .exit)) ⌝ }
 {
-    list_request(read_request(frame), buf)
+    put_listing(buf, read_request(frame))
 }

@@ -1,5 +1,4 @@
 pub mod Places
 pub mod Elements
 pub mod Records
-pub mod Words
 pub mod Lines

@@ -1,62 +1,75 @@
-// The lines of the answers: each is put behind the first `at` octets of a buffer, word by word; the
-// answer is the place behind them.
+// The lines of answers and lent buffers, each whole into an array that has room for every one of them.
 use octets::put;
-use octets::put_decimal;
-use octets::put_hex;
-use report_listing::put_refusal;
 use requesters::Answer;
+use texts::put_hex;
+use texts::put_refusal;
+use texts::put_size;
 ghost use mathlib.Core.Path.{_≡_};
-ghost use mathlib.Core.List.{map};
+ghost use Prim.Native.Nat.{_+_, _*_};
+ghost use lib.ListN.{length, take};
 ghost use Rattle.laws.specs.Buffers.{wrote};
-ghost use Rattle.octets.specs.Text.{hex};
-ghost use Rattle.report_listing.specs.Listing.{putWords};
-ghost use Rattle.traces.specs.Lines.{numberLine, answerLine, traceRefusalLine, bufferLine};
+ghost use Rattle.texts.specs.Text.{Puts, written, Within};
+ghost use Rattle.traces.specs.Lines.{numberLine, answerLine, traceRefusalLine, octetsText, bufferLine};
 
-fn put_line(buf: &mut [u8], at: usize, name: &[u8], n: usize) -> usize
-    ensures { λ r. ⌜ wrote r (now (buf .exit)) ≡ putWords (numberLine (now (name .entry)) n) at (now (buf .entry)) ⌝ }
+// What the line of an answer or of a trace that is refused has at most.
+pub const LINE: usize = 38;
+
+// A lent buffer has at most so many octets.
+pub const BUFFER: usize = 4096;
+
+// `buffer `, those in hexadecimal, and a line feed.
+pub const BUFFER_LINE: usize = 8200;
+
+fn put_line(buf: &mut [u8], name: &[u8], n: usize) -> usize
+    ensures { λ r. ⌜ Puts (length (now (name .entry)) + 20 + 1) (numberLine (now (name .entry)) n) 0 (now (buf .entry)) r (now (buf .exit)) ⌝ }
 {
-    let next = put(buf, at, name);
-    let next = put_decimal(buf, next, n as u64, 1);
+    let next = put_size(buf, 0, name, n);
     put(buf, next, b"\n")
 }
 
-// The line of an answer.
-pub fn put_answer(buf: &mut [u8], at: usize, answer: Answer) -> usize
-    ensures { λ r. ⌜ wrote r (now (buf .exit)) ≡ putWords (answerLine answer) at (now (buf .entry)) ⌝ }
+// The line of an answer; its length.
+pub fn put_answer(line: &mut [u8; LINE], answer: Answer) -> usize
+    ensures { λ r. ⌜ wrote r (now (line .exit)) ≡ written (answerLine answer) (now (line .entry)) ⌝ }
+    ensures { λ r. ⌜ Within 38 r (now (line .exit)) ⌝ }
 {
     match answer {
-        Answer::Accepted => put(buf, at, b"accepted\n"),
-        Answer::Nothing => put(buf, at, b"nothing\n"),
-        Answer::Length(n) => put_line(buf, at, b"length ", n),
-        Answer::Refused(refusal) => put_refusal(buf, at, refusal),
+        Answer::Accepted => put(line, 0, b"accepted\n"),
+        Answer::Nothing => put(line, 0, b"nothing\n"),
+        Answer::Length(n) => put_line(line, b"length ", n),
+        Answer::Refused(refusal) => put_refusal(line, 0, refusal),
     }
 }
 
 // The line of a trace that is refused at a place.
-pub fn put_trace_refusal(buf: &mut [u8], at: usize, place: usize) -> usize
-    ensures { λ r. ⌜ wrote r (now (buf .exit)) ≡ putWords (traceRefusalLine place) at (now (buf .entry)) ⌝ }
+pub fn put_trace_refusal(line: &mut [u8; LINE], place: usize) -> usize
+    ensures { λ r. ⌜ wrote r (now (line .exit)) ≡ written (traceRefusalLine place) (now (line .entry)) ⌝ }
+    ensures { λ r. ⌜ Within 38 r (now (line .exit)) ⌝ }
 {
-    put_line(buf, at, b"trace refused at ", place)
+    put_line(line, b"trace refused at ", place)
 }
 
-// Octets in hexadecimal.
-fn put_octets(buf: &mut [u8], at: usize, o: &[u8]) -> usize
-    ensures { λ r. ⌜ wrote r (now (buf .exit)) ≡ putWords (map hex (now (o .entry))) at (now (buf .entry)) ⌝ }
+// The first n octets in hexadecimal.
+fn put_octets(line: &mut [u8], from: usize, o: &[u8], n: usize) -> usize
+    ensures { λ r. ⌜ Puts (2 * length (now (o .entry))) (octetsText (take n (now (o .entry)))) from (now (line .entry)) r (now (line .exit)) ⌝ }
 {
-    let mut next = at;
+    let mut at = from;
     let mut i: usize = 0;
-    while i < o.len() {
-        next = put_hex(buf, next, o[i]);
+    while i < n {
+        if o.len() <= i {
+            return at;
+        }
+        at = put_hex(line, at, b"", o[i]);
         i += 1;
     }
-    next
+    at
 }
 
-// The line of a lent buffer.
-pub fn put_buffer(buf: &mut [u8], at: usize, o: &[u8]) -> usize
-    ensures { λ r. ⌜ wrote r (now (buf .exit)) ≡ putWords (bufferLine (now (o .entry))) at (now (buf .entry)) ⌝ }
+// The line of the first n octets of a buffer.
+pub fn put_buffer(line: &mut [u8; BUFFER_LINE], buf: &[u8; BUFFER], n: usize) -> usize
+    ensures { λ r. ⌜ wrote r (now (line .exit)) ≡ written (bufferLine (take n (now (buf .entry)))) (now (line .entry)) ⌝ }
+    ensures { λ r. ⌜ Within 8200 r (now (line .exit)) ⌝ }
 {
-    let next = put(buf, at, b"buffer ");
-    let next = put_octets(buf, next, o);
-    put(buf, next, b"\n")
+    let next = put(line, 0, b"buffer ");
+    let next = put_octets(line, next, buf, n);
+    put(line, next, b"\n")
 }

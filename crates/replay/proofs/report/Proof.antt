@@ -24,6 +24,9 @@ slice-aggregate-report-into c = sym (length-take-le _ _ (search needs))
 report-into-requires : tie.Need-report-into-requires
 report-into-requires c κs = search needs
 
+print-buffer-requires : tie.Need-print-buffer-requires
+print-buffer-requires c κs = search needs
+
 returns : tie.Need-returns
 returns c = search needs
 
@@ -37,4 +40,5 @@ report-spec =
     array-borrow-prefix-buf
     slice-aggregate-report-into
     report-into-requires
+    print-buffer-requires
     returns)

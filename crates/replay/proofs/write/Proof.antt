@@ -24,6 +24,9 @@ slice-aggregate-write-into c = sym (length-take-le _ _ (search needs))
 write-into-requires : tie.Need-write-into-requires
 write-into-requires c κs = search needs
 
+print-buffer-requires : tie.Need-print-buffer-requires
+print-buffer-requires c κs = search needs
+
 returns : tie.Need-returns
 returns c = search needs
 
@@ -37,4 +40,5 @@ write-spec =
     array-borrow-prefix-buf
     slice-aggregate-write-into
     write-into-requires
+    print-buffer-requires
     returns)

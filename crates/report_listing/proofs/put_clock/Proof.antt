@@ -1,7 +1,7 @@
--- `report_listing::put_clock` meets its contract: word by word.
+-- `report_listing::put_clock` meets its contract.
 -- Assumes nothing.
-use Rattle.report_listing.proofs.Laws.{words-then}
-use Rattle.report_listing.specs.Listing.{clockWords}
+use Rattle.texts.proofs.PutLaws.{both}
+use Rattle.report_listing.specs.Listing.{clockText}
 use borrow.Author.Needs.{needs}
 use Rattle.report_listing.proofs.put_clock.Statement.{statement}
 use Rattle.report_listing.proofs.put_clock.Tie as tie
@@ -33,8 +33,8 @@ array-read-put-time-octet-3 c = search needs
 put-time-octet-requires-3 : tie.Need-put-time-octet-requires-3
 put-time-octet-requires-3 c κs = search needs
 
-slice-aggregate-put-time-pair : tie.Need-slice-aggregate-put-time-pair
-slice-aggregate-put-time-pair c = search needs
+slice-aggregate-put-time-field : tie.Need-slice-aggregate-put-time-field
+slice-aggregate-put-time-field c = search needs
 
 array-read-pair : tie.Need-array-read-pair
 array-read-pair c = search needs
@@ -45,16 +45,16 @@ array-read-pair-2 c = search needs
 pair-requires : tie.Need-pair-requires
 pair-requires c κs = search needs
 
-put-time-pair-requires : tie.Need-put-time-pair-requires
-put-time-pair-requires c κs = search needs
+put-time-field-requires : tie.Need-put-time-field-requires
+put-time-field-requires c κs = search needs
 
 same-length : tie.Need-same-length
 same-length c = search needs
 
 returns : tie.Need-returns
-unfolding clockWords
+unfolding clockText
 returns c =
-    words-then _ _ _ _ _ _ _ _ (words-then _ _ _ _ _ _ _ _ (words-then _ _ _ _ _ _ _ _ (c .before .before .before .before .before .before .before .before .before .before .before .before .before .before .before .before .before .before .put-time-octet .ensures) (c .before .before .before .before .before .before .before .before .before .before .before .before .before .put-time-octet2 .ensures)) (c .before .before .before .before .before .before .before .before .put-time-octet3 .ensures)) (rw (c .before .before .before .pair .ensures) at (c .before .before .put-time-pair .ensures))
+    both (both (both (c .before .before .before .before .before .before .before .before .before .before .before .before .before .before .before .before .before .before .put-time-octet .ensures) (c .before .before .before .before .before .before .before .before .before .before .before .before .before .put-time-octet2 .ensures)) (c .before .before .before .before .before .before .before .before .put-time-octet3 .ensures)) (rw (c .before .before .before .pair .ensures) at (c .before .before .put-time-field .ensures))
 
 pub put-clock-spec : {M : Type 1} → statement M
 put-clock-spec =
@@ -69,10 +69,10 @@ put-clock-spec =
     slice-aggregate-put-time-octet-3
     array-read-put-time-octet-3
     put-time-octet-requires-3
-    slice-aggregate-put-time-pair
+    slice-aggregate-put-time-field
     array-read-pair
     array-read-pair-2
     pair-requires
-    put-time-pair-requires
+    put-time-field-requires
     same-length
     returns)

@@ -1,13 +1,13 @@
--- `report_listing::put_date` meets its contract: word by word.
+-- `report_listing::put_date` meets its contract.
 -- Assumes nothing.
-use Rattle.report_listing.proofs.Laws.{words-then}
-use Rattle.report_listing.specs.Listing.{dateWords}
+use Rattle.texts.proofs.PutLaws.{both}
+use Rattle.report_listing.specs.Listing.{dateText}
 use borrow.Author.Needs.{needs}
 use Rattle.report_listing.proofs.put_date.Statement.{statement}
 use Rattle.report_listing.proofs.put_date.Tie as tie
 
-slice-aggregate-put-time-pair : tie.Need-slice-aggregate-put-time-pair
-slice-aggregate-put-time-pair c = search needs
+slice-aggregate-put-time-field : tie.Need-slice-aggregate-put-time-field
+slice-aggregate-put-time-field c = search needs
 
 array-read-pair : tie.Need-array-read-pair
 array-read-pair c = search needs
@@ -18,8 +18,8 @@ array-read-pair-2 c = search needs
 pair-requires : tie.Need-pair-requires
 pair-requires c κs = search needs
 
-put-time-pair-requires : tie.Need-put-time-pair-requires
-put-time-pair-requires c κs = search needs
+put-time-field-requires : tie.Need-put-time-field-requires
+put-time-field-requires c κs = search needs
 
 slice-aggregate-put-time-octet : tie.Need-slice-aggregate-put-time-octet
 slice-aggregate-put-time-octet c = search needs
@@ -43,19 +43,18 @@ same-length : tie.Need-same-length
 same-length c = search needs
 
 returns : tie.Need-returns
-unfolding dateWords
-returns c =
-    words-then _ _ _ _ _ _ _ _ (words-then _ _ _ _ _ _ _ _ (rw (c .before .before .before .before .before .before .before .before .before .before .before .before .before .pair .ensures) at (c .before .before .before .before .before .before .before .before .before .before .before .before .put-time-pair .ensures)) (c .before .before .before .before .before .before .before .put-time-octet .ensures)) (c .before .before .put-time-octet2 .ensures)
+unfolding dateText
+returns c = both (both (rw (c .before .before .before .before .before .before .before .before .before .before .before .before .before .pair .ensures) at (c .before .before .before .before .before .before .before .before .before .before .before .before .put-time-field .ensures)) (c .before .before .before .before .before .before .before .put-time-octet .ensures)) (c .before .before .put-time-octet2 .ensures)
 
 pub put-date-spec : {M : Type 1} → statement M
 put-date-spec =
     tie.close
     (tie.spec
-    slice-aggregate-put-time-pair
+    slice-aggregate-put-time-field
     array-read-pair
     array-read-pair-2
     pair-requires
-    put-time-pair-requires
+    put-time-field-requires
     slice-aggregate-put-time-octet
     array-read-put-time-octet
     put-time-octet-requires

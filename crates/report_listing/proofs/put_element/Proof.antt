@@ -1,6 +1,6 @@
--- `report_listing::put_element` meets its contract: word by word.
+-- `report_listing::put_element` meets its contract.
 -- Assumes nothing.
-use Rattle.report_listing.proofs.Laws.{words-then, words-one}
+use Rattle.texts.proofs.PutLaws.{one, both}
 use Rattle.report_listing.specs.Listing.{elementLine}
 use borrow.Author.Needs.{needs}
 use Rattle.report_listing.proofs.put_element.Statement.{statement}
@@ -23,8 +23,7 @@ same-length c = search needs
 
 returns : tie.Need-returns
 unfolding elementLine
-returns c =
-    words-then _ _ _ _ _ _ _ _ (words-then _ _ _ _ _ _ _ _ (c .before .before .before .before .before .before .before .before .before .before .before .put-head .ensures) (c .before .before .before .before .before .before .before .put-tail .ensures)) (words-one _ _ _ _ _ (c .before .before .put .ensures))
+returns c = both (both (c .before .before .before .before .before .before .before .before .before .before .before .put-head .ensures) (c .before .before .before .before .before .before .before .put-tail .ensures)) (one (c .before .before .put .ensures))
 
 pub put-element-spec : {M : Type 1} → statement M
 put-element-spec =

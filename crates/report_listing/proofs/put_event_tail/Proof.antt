@@ -1,8 +1,10 @@
 -- `report_listing::put_event_tail` meets its contract.
 -- Assumes nothing.
+use native.Mathlib.Omega.{arith}
 use borrow.Author.Tests.{eq-eqb, ne-eqb}
 use Rattle.laws.specs.Choice.{if_then_else_}
-use Rattle.report_listing.specs.Listing.{putWords, eventTail}
+use Rattle.texts.proofs.PutLaws.{at-most, nothing}
+use Rattle.report_listing.specs.Listing.{eventTail}
 use borrow.Author.Needs.{needs}
 use Rattle.report_listing.proofs.put_event_tail.Statement.{statement}
 use Rattle.report_listing.proofs.put_event_tail.Tie as tie
@@ -25,11 +27,11 @@ same-length-2 c = search needs
 
 returns-2 : tie.Need-returns-2
 unfolding eventTail if_then_else_
-returns-2 c = rw (c .before .before .before .before .before .before .if1 .left, eq-eqb _ 0 (c .before .before .before .before .if2 .taken)) (c .before .before .put-unread .ensures)
+returns-2 c = rw (c .before .before .before .before .before .before .if1 .left, eq-eqb _ _ (c .before .before .before .before .if2 .taken)) (c .before .before .put-unread .ensures)
 
 returns-3 : tie.Need-returns-3
-unfolding putWords eventTail if_then_else_
-returns-3 c = rw (c .before .before .if1 .left, ne-eqb _ 0 (c .if2 .left))
+unfolding eventTail if_then_else_
+returns-3 c = rw (c .before .before .if1 .left, ne-eqb _ _ (c .if2 .left)) (at-most 26 (omega arith) (nothing _ _))
 
 pub put-event-tail-spec : {M : Type 1} → statement M
 put-event-tail-spec =

@@ -1,7 +1,7 @@
--- `report_listing::put_head` meets its contract: word by word.
+-- `report_listing::put_head` meets its contract.
 -- Assumes nothing.
-use Rattle.report_listing.proofs.Laws.{words-then}
-use Rattle.report_listing.specs.Listing.{headWords}
+use Rattle.texts.proofs.PutLaws.{short, both}
+use Rattle.report_listing.specs.Listing.{headText}
 use borrow.Author.Needs.{needs}
 use Rattle.report_listing.proofs.put_head.Statement.{statement}
 use Rattle.report_listing.proofs.put_head.Tie as tie
@@ -37,9 +37,9 @@ same-length : tie.Need-same-length
 same-length c = search needs
 
 returns : tie.Need-returns
-unfolding headWords
+unfolding headText
 returns c =
-    words-then _ _ _ _ _ _ _ _ (words-then _ _ _ _ _ _ _ _ (words-then _ _ _ _ _ _ _ _ (rw (c .before .before .before .before .before .before .before .before .before .before .before .before .before .before .before .before .before .before .report-id .ensures) at (c .before .before .before .before .before .before .before .before .before .before .before .before .before .before .before .before .before .put-octet .ensures)) (c .before .before .before .before .before .before .before .before .before .before .before .before .put-octet2 .ensures)) (c .before .before .before .before .before .before .before .put-octet3 .ensures)) (c .before .before .put-octet4 .ensures)
+    both (both (both (short (rw (c .before .before .before .before .before .before .before .before .before .before .before .before .before .before .before .before .before .before .report-id .ensures) at (c .before .before .before .before .before .before .before .before .before .before .before .before .before .before .before .before .before .put-octet .ensures))) (short (c .before .before .before .before .before .before .before .before .before .before .before .before .put-octet2 .ensures))) (short (c .before .before .before .before .before .before .before .put-octet3 .ensures))) (short (c .before .before .put-octet4 .ensures))
 
 pub put-head-spec : {M : Type 1} → statement M
 put-head-spec =

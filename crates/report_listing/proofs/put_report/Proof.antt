@@ -1,6 +1,6 @@
--- `report_listing::put_report` meets its contract: word by word.
+-- `report_listing::put_report` meets its contract.
 -- Assumes nothing.
-use Rattle.report_listing.proofs.Laws.{words-then, words-one}
+use Rattle.texts.proofs.PutLaws.{one, short, both}
 use Rattle.report_listing.specs.Listing.{reportLine}
 use borrow.Author.Needs.{needs}
 use Rattle.report_listing.proofs.put_report.Statement.{statement}
@@ -39,7 +39,7 @@ same-length c = search needs
 returns : tie.Need-returns
 unfolding reportLine
 returns c =
-    words-then _ _ _ _ _ _ _ _ (words-then _ _ _ _ _ _ _ _ (words-then _ _ _ _ _ _ _ _ (rw (c .before .before .before .before .before .before .before .before .before .before .before .before .before .before .before .before .before .before .report-action .ensures) at (c .before .before .before .before .before .before .before .before .before .before .before .before .before .before .before .before .before .put-octet .ensures)) (c .before .before .before .before .before .before .before .before .before .before .before .before .put-octet2 .ensures)) (c .before .before .before .before .before .before .before .put-size .ensures)) (words-one _ _ _ _ _ (c .before .before .put .ensures))
+    both (both (both (short (rw (c .before .before .before .before .before .before .before .before .before .before .before .before .before .before .before .before .before .before .report-action .ensures) at (c .before .before .before .before .before .before .before .before .before .before .before .before .before .before .before .before .before .put-octet .ensures))) (short (c .before .before .before .before .before .before .before .before .before .before .before .before .put-octet2 .ensures))) (short (c .before .before .before .before .before .before .before .put-size .ensures))) (one (c .before .before .put .ensures))
 
 pub put-report-spec : {M : Type 1} → statement M
 put-report-spec =

@@ -1,7 +1,7 @@
--- `report_listing::put_time` meets its contract: word by word.
+-- `report_listing::put_time` meets its contract.
 -- Assumes nothing.
-use Rattle.report_listing.proofs.Laws.{words-then}
-use Rattle.report_listing.specs.Listing.{timeWords}
+use Rattle.texts.proofs.PutLaws.{both}
+use Rattle.report_listing.specs.Listing.{timeText}
 use borrow.Author.Needs.{needs}
 use Rattle.report_listing.proofs.put_time.Statement.{statement}
 use Rattle.report_listing.proofs.put_time.Tie as tie
@@ -16,8 +16,8 @@ same-length : tie.Need-same-length
 same-length c = search needs
 
 returns : tie.Need-returns
-unfolding timeWords
-returns c = words-then _ _ _ _ _ _ _ _ (c .before .before .before .before .before .before .put-date .ensures) (c .before .before .put-clock .ensures)
+unfolding timeText
+returns c = both (c .before .before .before .before .before .before .put-date .ensures) (c .before .before .put-clock .ensures)
 
 pub put-time-spec : {M : Type 1} → statement M
 put-time-spec = tie.close (tie.spec put-date-requires put-clock-requires same-length returns)

@@ -1,8 +1,10 @@
 -- `report_listing::put_unread` meets its contract.
 -- Assumes nothing.
+use native.Mathlib.Omega.{arith}
 use borrow.Author.Tests.{eq-eqb, ne-eqb}
 use Rattle.laws.specs.Choice.{if_then_else_}
-use Rattle.report_listing.specs.Listing.{putWords, unreadWords}
+use Rattle.texts.proofs.PutLaws.{short, at-most, nothing}
+use Rattle.report_listing.specs.Listing.{unreadText}
 use borrow.Author.Needs.{needs}
 use Rattle.report_listing.proofs.put_unread.Statement.{statement}
 use Rattle.report_listing.proofs.put_unread.Tie as tie
@@ -14,15 +16,15 @@ put-size-requires : tie.Need-put-size-requires
 put-size-requires c κs = search needs
 
 returns : tie.Need-returns
-unfolding putWords unreadWords if_then_else_
-returns c = rw (eq-eqb _ 0 (c .match .keys1))
+unfolding unreadText if_then_else_
+returns c = rw (eq-eqb _ 0 (c .match .keys1)) (at-most 26 (omega arith) (nothing _ _))
 
 same-length : tie.Need-same-length
 same-length c = search needs
 
 returns-2 : tie.Need-returns-2
-unfolding unreadWords if_then_else_
-returns-2 c = rw (ne-eqb _ 0 (c .before .before .before .before .before .match .rest .1)) (c .before .before .put-size .ensures)
+unfolding unreadText if_then_else_
+returns-2 c = rw (ne-eqb _ 0 (c .before .before .before .before .before .match .rest .1)) (short (c .before .before .put-size .ensures))
 
 pub put-unread-spec : {M : Type 1} → statement M
 put-unread-spec =

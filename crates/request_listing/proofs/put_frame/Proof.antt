@@ -1,34 +1,31 @@
 -- `request_listing::put_frame` meets its contract.
 -- Assumes nothing.
-use native.Mathlib.Omega.{arith}
-use Rattle.request_listing.proofs.Laws.{frame-line-length, frame-line-puts}
+use Rattle.texts.proofs.PutLaws.{one, short, both}
+use Rattle.request_listing.specs.Listing.{frameLine}
 use borrow.Author.Needs.{needs}
 use Rattle.request_listing.proofs.put_frame.Statement.{statement}
 use Rattle.request_listing.proofs.put_frame.Tie as tie
 
-slice-aggregate-put-field : tie.Need-slice-aggregate-put-field
-slice-aggregate-put-field c = search needs
+slice-aggregate-put-octet : tie.Need-slice-aggregate-put-octet
+slice-aggregate-put-octet c = search needs
 
 request-action-requires : tie.Need-request-action-requires
 request-action-requires c κs = search needs
 
-cast-put-field : tie.Need-cast-put-field
-cast-put-field c = search needs
+put-octet-requires : tie.Need-put-octet-requires
+put-octet-requires c κs = search needs
 
-put-field-requires : tie.Need-put-field-requires
-put-field-requires c κs = search needs
+slice-aggregate-put-octet-2 : tie.Need-slice-aggregate-put-octet-2
+slice-aggregate-put-octet-2 c = search needs
 
-slice-aggregate-put-field-2 : tie.Need-slice-aggregate-put-field-2
-slice-aggregate-put-field-2 c = search needs
+put-octet-requires-2 : tie.Need-put-octet-requires-2
+put-octet-requires-2 c κs = search needs
 
-put-field-requires-2 : tie.Need-put-field-requires-2
-put-field-requires-2 c κs = search needs
+slice-aggregate-put-size : tie.Need-slice-aggregate-put-size
+slice-aggregate-put-size c = search needs
 
-slice-aggregate-put-field-3 : tie.Need-slice-aggregate-put-field-3
-slice-aggregate-put-field-3 c = search needs
-
-put-field-requires-3 : tie.Need-put-field-requires-3
-put-field-requires-3 c κs = search needs
+put-size-requires : tie.Need-put-size-requires
+put-size-requires c κs = search needs
 
 slice-aggregate-put : tie.Need-slice-aggregate-put
 slice-aggregate-put c = search needs
@@ -40,23 +37,20 @@ same-length : tie.Need-same-length
 same-length c = search needs
 
 returns : tie.Need-returns
-returns c =
-    let a = c .before .before .before .before .before .before .before .before .before .before .before .before .before .before .before .before .before .before .before .before .before .before .args in
-    let short = frame-line-length (a .kind) (a .dialog) (a .count) (search needs) (search needs) in
-    (frame-line-puts (a .kind) (a .dialog) (a .count) (a .buf .now) 0 (rw (c .before .before .before .before .before .before .before .before .before .before .before .before .before .before .before .before .before .before .request-action .ensures) at (c .before .before .before .before .before .before .before .before .before .before .before .before .before .before .before .before .before .put-field .ensures)) (c .before .before .before .before .before .before .before .before .before .before .before .before .put-field2 .ensures) (c .before .before .before .before .before .before .before .put-field3 .ensures) (λ _. c .before .before .put .ensures) (omega (arith, short, c .before .before .before .before .before .before .before .before .before .before .before .before .before .before .before .before .before .before .before .before .before .before .pre)), short)
+unfolding frameLine
+returns c = both (both (both (short (rw (c .before .before .before .before .before .before .before .before .before .before .before .before .before .before .before .before .before .before .request-action .ensures) at (c .before .before .before .before .before .before .before .before .before .before .before .before .before .before .before .before .before .put-octet .ensures))) (short (c .before .before .before .before .before .before .before .before .before .before .before .before .put-octet2 .ensures))) (short (c .before .before .before .before .before .before .before .put-size .ensures))) (one (c .before .before .put .ensures))
 
 pub put-frame-spec : {M : Type 1} → statement M
 put-frame-spec =
     tie.close
     (tie.spec
-    slice-aggregate-put-field
+    slice-aggregate-put-octet
     request-action-requires
-    cast-put-field
-    put-field-requires
-    slice-aggregate-put-field-2
-    put-field-requires-2
-    slice-aggregate-put-field-3
-    put-field-requires-3
+    put-octet-requires
+    slice-aggregate-put-octet-2
+    put-octet-requires-2
+    slice-aggregate-put-size
+    put-size-requires
     slice-aggregate-put
     put-requires
     same-length

@@ -1,6 +1,7 @@
 -- `traces::text::put_answer` meets its contract.
 -- Assumes nothing.
-use Rattle.report_listing.proofs.Laws.{words-one}
+use native.Mathlib.Omega.{arith}
+use Rattle.texts.proofs.PutLaws.{one, short, at-most, whole}
 use Rattle.traces.specs.Lines.{answerLine}
 use borrow.Author.Needs.{needs}
 use Rattle.traces.proofs.text.put_answer.Statement.{statement}
@@ -39,33 +40,21 @@ enum-known-answer-2 c = search needs
 put-refusal-requires : tie.Need-put-refusal-requires
 put-refusal-requires c κs = search needs
 
-same-length : tie.Need-same-length
-same-length c = search needs
-
 returns : tie.Need-returns
 unfolding answerLine
-returns c = rw (c .before .before .before .before .before .enum-told .given .1) (words-one _ _ _ _ _ (c .before .before .put .ensures))
-
-same-length-2 : tie.Need-same-length-2
-same-length-2 c = search needs
+returns c = rw (c .before .before .before .enum-told .given .1) (whole (at-most 38 (omega arith) (one (c .put .ensures))) (search needs))
 
 returns-2 : tie.Need-returns-2
 unfolding answerLine
-returns-2 c = rw (c .before .before .before .before .before .enum-told2 .given .1) (words-one _ _ _ _ _ (c .before .before .put2 .ensures))
-
-same-length-3 : tie.Need-same-length-3
-same-length-3 c = search needs
+returns-2 c = rw (c .before .before .before .enum-told2 .given .1) (whole (at-most 38 (omega arith) (one (c .put2 .ensures))) (search needs))
 
 returns-3 : tie.Need-returns-3
 unfolding answerLine
-returns-3 c = rw (c .before .before .before .before .before .before .answer .given .1) (c .before .before .put-line .ensures)
-
-same-length-4 : tie.Need-same-length-4
-same-length-4 c = search needs
+returns-3 c = rw (c .before .before .before .before .answer .given .1) (whole (at-most 38 (omega arith) (c .put-line .ensures)) (search needs))
 
 returns-4 : tie.Need-returns-4
 unfolding answerLine
-returns-4 c = rw (c .before .before .before .before .before .answer2 .given .1) (c .before .before .put-refusal .ensures)
+returns-4 c = rw (c .before .before .before .answer2 .given .1) (whole (at-most 38 (omega arith) (short (c .put-refusal .ensures))) (search needs))
 
 pub put-answer-spec : {M : Type 1} → statement M
 put-answer-spec =
@@ -82,11 +71,7 @@ put-answer-spec =
     put-line-requires
     enum-known-answer-2
     put-refusal-requires
-    same-length
     returns
-    same-length-2
     returns-2
-    same-length-3
     returns-3
-    same-length-4
     returns-4)

@@ -1,6 +1,6 @@
--- `traces::text::put_buffer` meets its contract: word by word.
+-- `traces::text::put_buffer` meets its contract.
 -- Assumes nothing.
-use Rattle.report_listing.proofs.Laws.{words-one, words-then}
+use Rattle.texts.proofs.PutLaws.{one, both, at-most, whole}
 use Rattle.traces.specs.Lines.{bufferLine}
 use borrow.Author.Needs.{needs}
 use Rattle.traces.proofs.text.put_buffer.Statement.{statement}
@@ -21,13 +21,9 @@ slice-aggregate-put-2 c = search needs
 put-requires-2 : tie.Need-put-requires-2
 put-requires-2 c κs = search needs
 
-same-length : tie.Need-same-length
-same-length c = search needs
-
 returns : tie.Need-returns
 unfolding bufferLine
-returns c =
-    words-then _ _ _ _ _ _ _ _ (words-one _ _ _ _ _ (c .before .before .before .before .before .before .before .before .before .before .before .put .ensures)) (words-then _ _ _ _ _ _ _ _ (c .before .before .before .before .before .before .before .put-octets .ensures) (words-one _ _ _ _ _ (c .before .before .put2 .ensures)))
+returns c = whole (at-most 8200 (search needs) (both (both (one (c .before .before .before .before .before .before .put .ensures)) (c .before .before .before .put-octets .ensures)) (one (c .put2 .ensures)))) (search needs)
 
 pub put-buffer-spec : {M : Type 1} → statement M
 put-buffer-spec =
@@ -38,5 +34,4 @@ put-buffer-spec =
     put-octets-requires
     slice-aggregate-put-2
     put-requires-2
-    same-length
     returns)

@@ -1,0 +1,52 @@
+-- `report_listing::put_listing` meets its contract.
+-- Assumes nothing.
+use native.Mathlib.Omega.{arith}
+use borrow.Author.Tests.{eq-eqb, ne-eqb}
+use borrow.Author.Needs.{needs}
+use Rattle.laws.specs.Choice.{if_then_else_}
+use Rattle.texts.proofs.PutLaws.{short, at-most, both}
+use Rattle.report_listing.specs.Listing.{reportListing}
+use Rattle.report_listing.proofs.Laws.{readable}
+use Rattle.report_listing.proofs.put_listing.Statement.{statement}
+use Rattle.report_listing.proofs.put_listing.Tie as tie
+
+read-report-requires : tie.Need-read-report-requires
+read-report-requires c κs = search needs
+
+put-refusal-requires : tie.Need-put-refusal-requires
+put-refusal-requires c κs = search needs
+
+same-length : tie.Need-same-length
+same-length c = search needs
+
+returns : tie.Need-returns
+unfolding reportListing if_then_else_
+returns c = rw (← c .before .before .before .before .before .before .before .read-report .ensures, ne-eqb _ _ (c .before .before .before .before .if1 .taken)) (at-most 32266 (omega arith) (short (c .before .before .put-refusal .ensures)))
+
+put-report-requires : tie.Need-put-report-requires
+put-report-requires c κs = search needs
+
+put-elements-requires : tie.Need-put-elements-requires
+put-elements-requires c κs = readable _ _ _ (c .before .before .before .before .before .before .before .before .read-report .ensures) (c .before .before .before .before .before .if1 .left) .fine
+
+same-length-2 : tie.Need-same-length-2
+same-length-2 c = search needs
+
+returns-2 : tie.Need-returns-2
+unfolding reportListing if_then_else_
+returns-2 c =
+    let few = readable _ _ _ (c .before .before .before .before .before .before .before .before .before .before .before .read-report .ensures) (c .before .before .before .before .before .before .before .before .if1 .left) .few in
+    rw (← c .before .before .before .before .before .before .before .before .before .before .before .read-report .ensures, eq-eqb _ _ (c .before .before .before .before .before .before .before .before .if1 .left)) (at-most 32266 (omega (arith, few)) (both (c .before .before .before .before .before .before .put-report .ensures) (c .before .before .put-elements .ensures)))
+
+pub put-listing-spec : {M : Type 1} → statement M
+put-listing-spec =
+    tie.close
+    (tie.spec
+    read-report-requires
+    put-refusal-requires
+    same-length
+    returns
+    put-report-requires
+    put-elements-requires
+    same-length-2
+    returns-2)
