@@ -10,7 +10,7 @@ use Rattle.laws.specs.Buffers.{pieces}
 use Rattle.octets.specs.declared.numbers.Kind.{Kind}
 use Rattle.octets.specs.declared.numbers.Kind.the-variants.{Event as EventKind, Diagnostic}
 use Rattle.octets.specs.Numbers.{reportAction, reportId, successful}
-use Rattle.octets.specs.Refusals.{refused, frameLength}
+use Rattle.octets.specs.Refusals.{refused, badFrameLength}
 use Rattle.octets.specs.Fields.{pairAt}
 use Rattle.octets.specs.Addresses.{addressAt}
 use Rattle.texts.specs.Text.{text, decimal, hexed, field, refusalLine}
@@ -98,5 +98,5 @@ listing destination s = reportListing s (readReport destination s)
 -- the program's input: six octets of destination, then the frame
 unfoldable pub inputListing : List ℕ → List ℕ
 inputListing input =
-    if ltb (length input) 6 then refusalLine (refused frameLength 0)
+    if ltb (length input) 6 then refusalLine (refused badFrameLength 0)
     else listing (addressAt input 0) (drop 6 input)
