@@ -42,14 +42,14 @@ flag false = 0
 
 -- ---- answers: "accepted", "nothing", length, or refusal number and place
 
-abbrev pub reply : ℕ → ℕ → ℕ → ℕ → Reply
-reply code cause place length = record { code = code; cause = cause; place = place; length = length }
+abbrev pub numberedReply : ℕ → ℕ → ℕ → ℕ → Reply
+numberedReply code cause place length = record { code = code; cause = cause; place = place; length = length }
 
 unfoldable pub replyTo : Answer → Reply
-replyTo accepted = reply 0 0 0 0
-replyTo nothing = reply 1 0 0 0
-replyTo (written n) = reply 2 0 0 n
-replyTo (refused r) = reply 3 (r .number) (r .place) 0
+replyTo accepted = numberedReply 0 0 0 0
+replyTo nothing = numberedReply 1 0 0 0
+replyTo (written n) = numberedReply 2 0 0 n
+replyTo (refused r) = numberedReply 3 (r .number) (r .place) 0
 
 -- ---- the calls on a station: the model's station and the lent buffer, with the answer's numbers
 
@@ -69,8 +69,8 @@ viewed o buffer = record { station = view (o .station); reply = o .reply; buffer
 abbrev pub conditionOf : Condition → Subelements·Condition
 conditionOf c = record { present = isSet (c .present); octets = c .octets }
 
-abbrev pub elementOf : RequestElement → Requests·Element
-elementOf e = record {
+abbrev pub elementFrom : RequestElement → Requests·Element
+elementFrom e = record {
   token = e .token;
   ty = e .ty;
   timeout = e .timeout;
@@ -83,8 +83,8 @@ elementOf e = record {
 
 unfoldable pub replyWritten : Written → Reply
 replyWritten w =
-    if not (eqb (w .refusal .number) 0) then reply 3 (w .refusal .number) (w .refusal .place) 0
-    else reply 2 0 0 (w .length)
+    if not (eqb (w .refusal .number) 0) then numberedReply 3 (w .refusal .number) (w .refusal .place) 0
+    else numberedReply 2 0 0 (w .length)
 
 pub record Write : Type 0 where
   pub reply : Reply

@@ -7,7 +7,7 @@ use report_reader::Element;
 ghost use mathlib.Core.Path.{_≡_};
 ghost use mathlib.Core.List.{map};
 ghost use lib.ListN.{take};
-ghost use Rattle.firmware.specs.Numbers.{flag, conditionOf, elementOf, numberedElement};
+ghost use Rattle.firmware.specs.Numbers.{flag, conditionOf, elementFrom, numberedElement};
 
 // The number of a flag.
 pub fn flag_number(set: bool) -> u8
@@ -39,7 +39,7 @@ fn filter_of(f: [Condition; 5]) -> [subelements::Condition; 5]
 }
 
 fn element_of(e: RequestElement) -> requests::Element
-    ensures { λ r. ⌜ r ≡ elementOf e ⌝ }
+    ensures { λ r. ⌜ r ≡ elementFrom e ⌝ }
 {
     let filter = e.filter;
     requests::Element {
@@ -54,7 +54,7 @@ fn element_of(e: RequestElement) -> requests::Element
 
 // The first count elements of a request for the writer, which looks at no other; those are blank.
 pub fn elements_of(es: [RequestElement; 8], count: usize) -> [requests::Element; 8]
-    ensures { λ r. ⌜ take count r ≡ map elementOf (take count es) ⌝ }
+    ensures { λ r. ⌜ take count r ≡ map elementFrom (take count es) ⌝ }
 {
     let end = least(count, 8);
     let mut elements = [requests::Element {

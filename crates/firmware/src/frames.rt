@@ -18,7 +18,7 @@ ghost use mathlib.Core.List.{map};
 ghost use Rattle.octets.specs.Numbers.{kindOf};
 ghost use Rattle.request_writer.specs.Writer.{writeRequest};
 ghost use Rattle.report_reader.specs.Reader.{foundStep, stepAt, readReport};
-ghost use Rattle.firmware.specs.Numbers.{numberOf, elementOf, replyWritten, write, numberedWrite, numberedReport, numberedStep};
+ghost use Rattle.firmware.specs.Numbers.{numberOf, elementFrom, replyWritten, write, numberedWrite, numberedReport, numberedStep};
 
 // The number of a kind.
 fn number_of(kind: Kind) -> u8
@@ -53,7 +53,7 @@ fn reply_written(w: Written) -> Reply
 // Writes a request frame at the front of a buffer, or nothing where it is refused.
 #[no_mangle]
 pub extern "C" fn dultxibe_write_request(q: Request, buf: &mut [u8]) -> Reply
-    ensures { λ r. ⌜ write r (now (buf .exit)) ≡ numberedWrite (writeRequest (kindOf (q .kind)) (q .dialog) (map elementOf (q .elements)) (q .count) (now (buf .entry))) ⌝ }
+    ensures { λ r. ⌜ write r (now (buf .exit)) ≡ numberedWrite (writeRequest (kindOf (q .kind)) (q .dialog) (map elementFrom (q .elements)) (q .count) (now (buf .entry))) ⌝ }
 {
     let elements = q.elements;
     reply_written(write_request(

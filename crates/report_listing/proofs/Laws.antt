@@ -23,7 +23,7 @@ use Rattle.report_reader.specs.declared.Step.{Step}
 use Rattle.report_reader.specs.declared.Report.{Report}
 use Rattle.report_reader.specs.Reader.{stepAt, readReport, reportOf, judge, judgedReport, ElementRead, elementReadAt, Reading, reading, gathered, unread, readStep, readElements}
 use Rattle.report_reader.proofs.Laws.{Forward, goes-on, Extent, found-extent, agrees}
-use Rattle.report_listing.specs.Listing.{timeField, elementLine, elementLines}
+use Rattle.report_listing.specs.Listing.{timeField, reportElementLine, reportElementLines}
 use Rattle.report_listing.specs.Internal.{tailMost, stepLine, stepMost}
 
 -- ---- a time field
@@ -59,7 +59,7 @@ pub record Listed (s : List ℕ) (kind : Kind) (from : ℕ) (old buf : List ℕ)
   pub front : 3 ≤ cur
   pub within : cur - 3 ≤ length s - 3
   pub same : length buf ≡ length old
-  pub puts : Puts (14 * (cur - 3)) (elementLines kind es) from old at buf
+  pub puts : Puts (14 * (cur - 3)) (reportElementLines kind es) from old at buf
 
 pub listed-start : (s : List ℕ) (kind : Kind) (from : ℕ) (buf : List ℕ) → Listed s kind from buf buf from 3
 unfolding readElements pieces
@@ -73,7 +73,7 @@ listed-start s kind from buf = record {
 }
 
 module _ {s : List ℕ} {kind : Kind} {from : ℕ} {old buf : List ℕ} {at cur : ℕ} (l : Listed s kind from old buf at cur) (fine : readElements s kind .refusal .number ≡ 0) where
-  pub listed-end : length s ≤ cur → Puts (14 * (length s - 3)) (elementLines kind (readElements s kind .elements)) from old at buf
+  pub listed-end : length s ≤ cur → Puts (14 * (length s - 3)) (reportElementLines kind (readElements s kind .elements)) from old at buf
   listed-end end =
       let e : reading noRefusal cur (l .es) ≡ readElements s kind = done (l .rest) (stop-end 0 cur (length s) refl end) in
       rw (← e) (at-most (14 * (length s - 3)) (omega (arith, l .within)) (l .puts))
@@ -107,14 +107,14 @@ module _ {s : List ℕ} {kind : Kind} {from : ℕ} {old buf : List ℕ} {at cur 
             let x : ElementRead = elementReadAt s t in
             let e : reading noRefusal (t .next .at) (l .es ++ (x ∷ [])) ≡ readStep s kind (reading noRefusal cur (l .es)) = rw (← is, eq-eqb (t .refusal .number) 0 accepted, f) in
             let g = on in
-            let p : Puts (41 + tailMost (t .element .logged) + 1) (elementLine kind (t .element)) at buf n y = rw f at q in
+            let p : Puts (41 + tailMost (t .element .logged) + 1) (reportElementLine kind (t .element)) at buf n y = rw f at q in
             record {
               es = l .es ++ (x ∷ []);
               rest = again (length s - t .next .at) (l .rest) goes (omega (arith, g .on)) e;
               front = omega (arith, g .on, l .front);
               within = omega (arith, g .within);
               same = keeps ∙ l .same;
-              puts = rw (pieces-snoc (λ (r : ElementRead). elementLine kind (r .element)) 0 (l .es) x)
+              puts = rw (pieces-snoc (λ (r : ElementRead). reportElementLine kind (r .element)) 0 (l .es) x)
                   (at-most (14 * (t .next .at - 3)) (omega (arith, g .on, l .front, line-most cur t (found-extent s kind cur t is f))) (both (l .puts) p));
             }
         go false f =

@@ -74,13 +74,13 @@ unfoldable pub headText : Kind → Element → List ℕ
 headText kind e = field "element " (reportId kind) ++ field " token " (e .token) ++ field " type " (e .ty) ++ field " status " (e .status)
 
 -- `element 79 token 5 type 0 status 0`, and what the element has behind its status
-unfoldable pub elementLine : Kind → Element → List ℕ
-elementLine kind e = headText kind e ++ tailText kind e ++ text "\n"
+unfoldable pub reportElementLine : Kind → Element → List ℕ
+reportElementLine kind e = headText kind e ++ tailText kind e ++ text "\n"
 
 -- ---- a frame
 
-abbrev pub elementLines : Kind → List ElementRead → List ℕ
-elementLines kind es = pieces (λ (i : ℕ) (e : ElementRead). elementLine kind (e .element)) 0 es
+abbrev pub reportElementLines : Kind → List ElementRead → List ℕ
+reportElementLines kind es = pieces (λ (i : ℕ) (e : ElementRead). reportElementLine kind (e .element)) 0 es
 
 -- `report 1 dialog 7 elements 1`
 unfoldable pub reportLine : Report → List ℕ
@@ -90,13 +90,13 @@ reportLine r = field "report " (reportAction (r .kind)) ++ field " dialog " (r .
 unfoldable pub reportListing : List ℕ → Report → List ℕ
 reportListing s r =
     if not (eqb (r .refusal .number) 0) then refusalLine (r .refusal)
-    else reportLine r ++ elementLines (r .kind) (readElements s (r .kind) .elements)
+    else reportLine r ++ reportElementLines (r .kind) (readElements s (r .kind) .elements)
 
-abbrev pub listing : List ℕ → List ℕ → List ℕ
-listing destination s = reportListing s (readReport destination s)
+abbrev pub frameListing : List ℕ → List ℕ → List ℕ
+frameListing destination s = reportListing s (readReport destination s)
 
 -- the program's input: six octets of destination, then the frame
 unfoldable pub inputListing : List ℕ → List ℕ
 inputListing input =
     if ltb (length input) 6 then refusalLine (refused badFrameLength 0)
-    else listing (addressAt input 0) (drop 6 input)
+    else frameListing (addressAt input 0) (drop 6 input)

@@ -26,7 +26,7 @@ ghost use lib.ListN.{length};
 ghost use Rattle.laws.specs.Buffers.{wrote};
 ghost use Rattle.texts.specs.Text.{Puts, written, Within};
 ghost use Rattle.report_reader.specs.Reader.{readElements};
-ghost use Rattle.report_listing.specs.Listing.{timeField, dateText, clockText, timeText, addressText, signalsText, eventText, unreadText, eventTail, tailText, headText, elementLine, elementLines, reportLine, listing, inputListing};
+ghost use Rattle.report_listing.specs.Listing.{timeField, dateText, clockText, timeText, addressText, signalsText, eventText, unreadText, eventTail, tailText, headText, reportElementLine, reportElementLines, reportLine, frameListing, inputListing};
 ghost use Rattle.report_listing.specs.Internal.{tailMost, stepLine, stepMost};
 
 // What the longest listing has at most: 52 octets for the first line, and 14 for each octet that the
@@ -165,7 +165,7 @@ fn put_head(buf: &mut [u8], at: usize, kind: Kind, e: Element) -> usize
 
 // The line of an element.
 fn put_element(buf: &mut [u8], at: usize, kind: Kind, e: Element) -> usize
-    ensures { λ r. ⌜ Puts (41 + tailMost (e .logged) + 1) (elementLine kind e) at (now (buf .entry)) r (now (buf .exit)) ⌝ }
+    ensures { λ r. ⌜ Puts (41 + tailMost (e .logged) + 1) (reportElementLine kind e) at (now (buf .entry)) r (now (buf .exit)) ⌝ }
 {
     let next = put_head(buf, at, kind, e);
     let next = put_tail(buf, next, kind, e);
@@ -188,7 +188,7 @@ fn put_step(buf: &mut [u8], at: usize, kind: Kind, step: Step) -> usize
 // The lines of all elements of a frame that is not refused.
 fn put_elements(buf: &mut [u8], from: usize, s: &[u8], kind: Kind) -> usize
     requires { ⌜ readElements (now s) kind .refusal .number ≡ 0 ⌝ }
-    ensures { λ r. ⌜ Puts (14 * (length (now (s .entry)) - 3)) (elementLines kind (readElements (now (s .entry)) kind .elements)) from (now (buf .entry)) r (now (buf .exit)) ⌝ }
+    ensures { λ r. ⌜ Puts (14 * (length (now (s .entry)) - 3)) (reportElementLines kind (readElements (now (s .entry)) kind .elements)) from (now (buf .entry)) r (now (buf .exit)) ⌝ }
 {
     let mut at = from;
     let mut cursor = Cursor::first();
@@ -213,7 +213,7 @@ fn put_report(buf: &mut [u8], at: usize, r: Report) -> usize
 }
 
 fn put_listing(buf: &mut [u8], destination: [u8; 6], s: &[u8]) -> usize
-    ensures { λ n. ⌜ Puts 32266 (listing destination (now (s .entry))) 0 (now (buf .entry)) n (now (buf .exit)) ⌝ }
+    ensures { λ n. ⌜ Puts 32266 (frameListing destination (now (s .entry))) 0 (now (buf .entry)) n (now (buf .exit)) ⌝ }
 {
     let report = read_report(destination, s);
     let refusal = report.refusal;
@@ -227,7 +227,7 @@ fn put_listing(buf: &mut [u8], destination: [u8; 6], s: &[u8]) -> usize
 
 // Reads a report frame for a destination and lists it; the text's length.
 pub fn list_report(destination: [u8; 6], s: &[u8], buf: &mut [u8; LISTING]) -> usize
-    ensures { λ n. ⌜ wrote n (now (buf .exit)) ≡ written (listing destination (now (s .entry))) (now (buf .entry)) ⌝ }
+    ensures { λ n. ⌜ wrote n (now (buf .exit)) ≡ written (frameListing destination (now (s .entry))) (now (buf .entry)) ⌝ }
     ensures { λ n. ⌜ Within 32266 n (now (buf .exit)) ⌝ }
 {
     put_listing(buf, destination, s)

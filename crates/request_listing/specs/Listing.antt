@@ -24,15 +24,15 @@ limitField Event e = field " limit " (e .limit)
 limitField Diagnostic e = field " timeout " (e .timeout)
 
 -- "Then one line each: ID, token, type, limit .., subelements walked"
-unfoldable pub elementLine : Kind → Element → List ℕ
-elementLine kind e =
+unfoldable pub requestElementLine : Kind → Element → List ℕ
+requestElementLine kind e =
     field "element " (requestId kind) ++ field " token " (e .token) ++ field " type " (e .ty) ++ limitField kind e ++ field " subs " (e .subs) ++ text "\n"
 
-abbrev pub elementLines : Kind → List Element → List ℕ
-elementLines kind es = pieces (λ (i : ℕ) (e : Element). elementLine kind e) 0 es
+abbrev pub requestElementLines : Kind → List Element → List ℕ
+requestElementLines kind es = pieces (λ (i : ℕ) (e : Element). requestElementLine kind e) 0 es
 
 -- what the frame program prints of a request
-unfoldable pub listing : Request → List ℕ
-listing r =
+unfoldable pub requestListing : Request → List ℕ
+requestListing r =
     if not (eqb (r .refusal .number) 0) then refusalLine (r .refusal)
-    else frameLine (r .kind) (r .dialog) (r .count) ++ elementLines (r .kind) (take (r .count) (r .elements))
+    else frameLine (r .kind) (r .dialog) (r .count) ++ requestElementLines (r .kind) (take (r .count) (r .elements))

@@ -14,7 +14,7 @@ ghost use mathlib.Core.Path.{_≡_};
 ghost use lib.ListN.{take};
 ghost use Rattle.laws.specs.Buffers.{wrote};
 ghost use Rattle.texts.specs.Text.{Puts, written, Within};
-ghost use Rattle.request_listing.specs.Listing.{frameLine, limitField, elementLine, elementLines, listing};
+ghost use Rattle.request_listing.specs.Listing.{frameLine, limitField, requestElementLine, requestElementLines, requestListing};
 ghost use Rattle.requests.specs.Elements.{elementCapacity};
 ghost use Rattle.requests.specs.Requests.{readRequest};
 
@@ -32,7 +32,7 @@ fn put_limit(buf: &mut [u8], at: usize, kind: Kind, e: Element) -> usize
 
 // The line of an element.
 fn put_line(buf: &mut [u8], at: usize, kind: Kind, e: Element) -> usize
-    ensures { λ r. ⌜ Puts 56 (elementLine kind e) at (now (buf .entry)) r (now (buf .exit)) ⌝ }
+    ensures { λ r. ⌜ Puts 56 (requestElementLine kind e) at (now (buf .entry)) r (now (buf .exit)) ⌝ }
 {
     let next = put_octet(buf, at, b"element ", kind.request_id());
     let next = put_octet(buf, next, b" token ", e.token);
@@ -50,7 +50,7 @@ fn put_lines(
     es: [Element; ELEMENT_CAPACITY],
     count: usize,
 ) -> usize
-    ensures { λ r. ⌜ Puts 448 (elementLines kind (take count es)) from (now (buf .entry)) r (now (buf .exit)) ⌝ }
+    ensures { λ r. ⌜ Puts 448 (requestElementLines kind (take count es)) from (now (buf .entry)) r (now (buf .exit)) ⌝ }
 {
     let mut at = from;
     let mut i: usize = 0;
@@ -77,7 +77,7 @@ fn put_frame(buf: &mut [u8], at: usize, kind: Kind, dialog: u8, count: usize) ->
 
 // Lists a request.
 fn put_listing(buf: &mut [u8], r: Request) -> usize
-    ensures { λ n. ⌜ Puts 499 (listing r) 0 (now (buf .entry)) n (now (buf .exit)) ⌝ }
+    ensures { λ n. ⌜ Puts 499 (requestListing r) 0 (now (buf .entry)) n (now (buf .exit)) ⌝ }
 {
     if r.refusal.number != 0 {
         let refusal = r.refusal;
@@ -91,7 +91,7 @@ fn put_listing(buf: &mut [u8], r: Request) -> usize
 
 // Reads a frame and lists it; the text's length.
 pub fn list_frame(frame: &[u8], buf: &mut [u8; LISTING]) -> usize
-    ensures { λ n. ⌜ wrote n (now (buf .exit)) ≡ written (listing (readRequest elementCapacity (now (frame .entry)))) (now (buf .entry)) ⌝ }
+    ensures { λ n. ⌜ wrote n (now (buf .exit)) ≡ written (requestListing (readRequest elementCapacity (now (frame .entry)))) (now (buf .entry)) ⌝ }
     ensures { λ n. ⌜ Within 499 n (now (buf .exit)) ⌝ }
 {
     put_listing(buf, read_request(frame))

@@ -10,7 +10,7 @@ use Rattle.laws.specs.Choice.{if_then_else_}
 use Rattle.octets.specs.declared.numbers.Kind.{Kind}
 use Rattle.traces.specs.declared.elements.Elements.{Elements}
 use Rattle.traces.specs.Places.{placeBehindRecord}
-use Rattle.traces.specs.Elements.{conditionEnd, conditionsEnd, tracedElementAt, withTraced, moreElements}
+use Rattle.traces.specs.Elements.{conditionEnd, conditionsEnd, tracedElementAt, withTraced, moreTraced}
 
 -- nothing ends past the end of the input
 pub behind-past : (s : List ℕ) (at n : ℕ) → length s < at + n → placeBehindRecord s at n ≡ 0
@@ -32,10 +32,10 @@ unfolding conditionsEnd
 conditions-done s n at least z = rw z
 
 module _ (s : List ℕ) (kind : Kind) (n i : ℕ) (w : Elements) where
-  pub elements-next : (k : ℕ) → n ≡ suc k → moreElements s kind n i w ≡ moreElements s kind k (i + 1) (withTraced w i (tracedElementAt s kind (w .end)))
-  unfolding moreElements
+  pub elements-next : (k : ℕ) → n ≡ suc k → moreTraced s kind n i w ≡ moreTraced s kind k (i + 1) (withTraced w i (tracedElementAt s kind (w .end)))
+  unfolding moreTraced
   elements-next k e = rw e
 
-  pub elements-done : n ≡ 0 → moreElements s kind n i w ≡ w
-  unfolding moreElements
+  pub elements-done : n ≡ 0 → moreTraced s kind n i w ≡ w
+  unfolding moreTraced
   elements-done z = rw z

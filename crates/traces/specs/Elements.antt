@@ -84,9 +84,9 @@ unfoldable pub withTraced : Elements → ℕ → Recorded → Elements
 withTraced w i r = record { end = r .end; elements = set (w .elements) i (r .element) }
 
 -- so many, behind the first i
-unfoldable pub moreElements : List ℕ → Kind → ℕ → ℕ → Elements → Elements
-moreElements s kind zero i w = w
-moreElements s kind (suc k) i w = moreElements s kind k (i + 1) (withTraced w i (tracedElementAt s kind (w .end)))
+unfoldable pub moreTraced : List ℕ → Kind → ℕ → ℕ → Elements → Elements
+moreTraced s kind zero i w = w
+moreTraced s kind (suc k) i w = moreTraced s kind k (i + 1) (withTraced w i (tracedElementAt s kind (w .end)))
 
 abbrev pub startedTrace : ℕ → Elements
 startedTrace from =
@@ -96,4 +96,4 @@ startedTrace from =
     }
 
 abbrev pub elementsAt : List ℕ → Kind → ℕ → ℕ → Elements
-elementsAt s kind count from = moreElements s kind count 0 (startedTrace from)
+elementsAt s kind count from = moreTraced s kind count 0 (startedTrace from)

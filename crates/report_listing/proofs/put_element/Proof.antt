@@ -1,7 +1,7 @@
 -- `report_listing::put_element` meets its contract.
 -- Assumes nothing.
 use Rattle.texts.proofs.PutLaws.{one, both}
-use Rattle.report_listing.specs.Listing.{elementLine}
+use Rattle.report_listing.specs.Listing.{reportElementLine}
 use borrow.Author.Needs.{needs}
 use Rattle.report_listing.proofs.put_element.Statement.{statement}
 use Rattle.report_listing.proofs.put_element.Tie as tie
@@ -22,7 +22,7 @@ same-length : tie.Need-same-length
 same-length c = search needs
 
 returns : tie.Need-returns
-unfolding elementLine
+unfolding reportElementLine
 returns c = both (both (c .before .before .before .before .before .before .before .before .before .before .before .put-head .ensures) (c .before .before .before .before .before .before .before .put-tail .ensures)) (one (c .before .before .put .ensures))
 
 pub put-element-spec : {M : Type 1} → statement M

@@ -1,7 +1,7 @@
 -- `request_listing::put_line` meets its contract.
 -- Assumes nothing.
 use Rattle.texts.proofs.PutLaws.{one, short, both}
-use Rattle.request_listing.specs.Listing.{elementLine}
+use Rattle.request_listing.specs.Listing.{requestElementLine}
 use borrow.Author.Needs.{needs}
 use Rattle.request_listing.proofs.put_line.Statement.{statement}
 use Rattle.request_listing.proofs.put_line.Tie as tie
@@ -46,7 +46,7 @@ same-length : tie.Need-same-length
 same-length c = search needs
 
 returns : tie.Need-returns
-unfolding elementLine
+unfolding requestElementLine
 returns c =
     both (both (both (both (both (short (rw (c .before .before .before .before .before .before .before .before .before .before .before .before .before .before .before .before .before .before .before .before .before .before .before .before .before .before .before .request-id .ensures) at (c .before .before .before .before .before .before .before .before .before .before .before .before .before .before .before .before .before .before .before .before .before .before .before .before .before .before .put-octet .ensures))) (short (c .before .before .before .before .before .before .before .before .before .before .before .before .before .before .before .before .before .before .before .before .before .put-octet2 .ensures))) (short (c .before .before .before .before .before .before .before .before .before .before .before .before .before .before .before .before .put-octet3 .ensures))) (c .before .before .before .before .before .before .before .before .before .before .before .before .put-limit .ensures)) (short (c .before .before .before .before .before .before .before .put-pair .ensures))) (one (c .before .before .put .ensures))
 

@@ -4,7 +4,7 @@ use native.Mathlib.Omega.{arith}
 use borrow.Author.Tests.{eq-eqb, ne-eqb}
 use Rattle.laws.specs.Choice.{if_then_else_}
 use Rattle.texts.proofs.PutLaws.{short, at-most, both}
-use Rattle.request_listing.specs.Listing.{listing}
+use Rattle.request_listing.specs.Listing.{requestListing}
 use borrow.Author.Needs.{needs}
 use Rattle.request_listing.proofs.put_listing.Statement.{statement}
 use Rattle.request_listing.proofs.put_listing.Tie as tie
@@ -16,7 +16,7 @@ same-length : tie.Need-same-length
 same-length c = search needs
 
 returns : tie.Need-returns
-unfolding listing if_then_else_
+unfolding requestListing if_then_else_
 returns c = rw (ne-eqb _ _ (c .before .before .before .before .before .if1 .taken)) (at-most 499 (omega arith) (short (c .before .before .put-refusal .ensures)))
 
 put-frame-requires : tie.Need-put-frame-requires
@@ -29,7 +29,7 @@ same-length-2 : tie.Need-same-length-2
 same-length-2 c = search needs
 
 returns-2 : tie.Need-returns-2
-unfolding listing if_then_else_
+unfolding requestListing if_then_else_
 returns-2 c = rw (eq-eqb _ _ (c .before .before .before .before .before .before .before .before .before .if1 .left)) (both (c .before .before .before .before .before .before .put-frame .ensures) (c .before .before .put-lines .ensures))
 
 pub put-listing-spec : {M : Type 1} → statement M

@@ -6,7 +6,7 @@ use mathlib.Core.List.{map}
 use native.Mathlib.Omega.{arith}
 use lib.ListN.{length, take, drop, length-set}
 use Rattle.laws.proofs.Arrays.{length-mapped, take-within, fill-none, fill-back, mapped-within}
-use Rattle.firmware.specs.Numbers.{elementOf}
+use Rattle.firmware.specs.Numbers.{elementFrom}
 use Rattle.firmware.proofs.Laws.{pastElements}
 use borrow.Author.Needs.{needs}
 use Rattle.firmware.proofs.elements.elements_of.Statement.{statement}
@@ -14,7 +14,7 @@ use Rattle.firmware.proofs.elements.elements_of.Tie as tie
 
 abbrev Inv-loop : tie.InvT-loop
 Inv-loop count es end elements₀ i₀ elements i =
-    (i ≤ end) × (end ≤ 8) × (length es ≡ 8) × (length elements ≡ 8) × (drop i (take end elements) ≡ map elementOf (drop i (take end es)))
+    (i ≤ end) × (end ≤ 8) × (length es ≡ 8) × (length elements ≡ 8) × (drop i (take end elements) ≡ map elementFrom (drop i (take end es)))
 
 abbrev μ-loop : tie.MeasureT-loop
 μ-loop count es end elements₀ i₀ elements i = i
@@ -27,7 +27,7 @@ loop-holds c =
     let es = c .before .args .t1 in
     let end = c .least .result in
     let eight : length es ≡ 8 = search (needs, length-mapped) in
-    (omega arith, omega (arith, c .least .ensures), eight, search needs, fill-none end _ ∙ sym (ap (map elementOf) (fill-none end es)))
+    (omega arith, omega (arith, c .least .ensures), eight, search needs, fill-none end _ ∙ sym (ap (map elementFrom) (fill-none end es)))
 
 sub-i : tie.Need-sub-i Inv-loop μ-loop
 sub-i c = omega arith
@@ -57,7 +57,7 @@ loop-again c =
     let end = c .before .before .before .before .least .result in
     let j = l .i - 1 in
     let next : l .i ≡ j + 1 = omega (arith, c .before .before .loop-test .taken) in
-    (omega arith, l .inv .1, l .inv .2, length-set (l .elements) j _ ∙ l .inv .3, fill-back elementOf es (l .elements) end j pastElements (c .element-of .result) (omega arith) (omega arith) (omega arith) (rw next at (l .inv .4)) (c .element-of .ensures))
+    (omega arith, l .inv .1, l .inv .2, length-set (l .elements) j _ ∙ l .inv .3, fill-back elementFrom es (l .elements) end j pastElements (c .element-of .result) (omega arith) (omega arith) (omega arith) (rw next at (l .inv .4)) (c .element-of .ensures))
 
 returns : tie.Need-returns Inv-loop μ-loop
 returns c =
@@ -67,7 +67,7 @@ returns c =
     let end = least .result in
     let none : l .i ≡ 0 = omega arith in
     sym (take-within (l .elements) 8 end (l .inv .3) (a .count) (least .ensures))
-    ∙ mapped-within elementOf (a .t1) (l .elements) end 8 end (a .count) (l .inv .2) (least .ensures) refl (rw none at (l .inv .4))
+    ∙ mapped-within elementFrom (a .t1) (l .elements) end 8 end (a .count) (l .inv .2) (least .ensures) refl (rw none at (l .inv .4))
 
 pub elements-of-spec : {M : Type 1} → statement M
 elements-of-spec =

@@ -7,7 +7,7 @@ use Rattle.octets.specs.Numbers.{kindOf}
 use Rattle.laws.proofs.Arrays.{length-mapped, map-take}
 use Rattle.octets.specs.declared.numbers.Kind.{Kind}
 use Rattle.request_writer.specs.Writer.{writeRequest}
-use Rattle.firmware.specs.Numbers.{elementOf, numberedWrite}
+use Rattle.firmware.specs.Numbers.{elementFrom, numberedWrite}
 use Rattle.firmware.proofs.Laws.{write-first}
 use borrow.Author.Needs.{needs}
 use Rattle.firmware.proofs.frames.dultxibe_write_request.Statement.{statement}
@@ -32,15 +32,15 @@ returns : tie.Need-returns
 returns c =
     let a = c .before .before .before .before .before .before .before .before .before .args in
     let given = c .before .before .before .before .before .elements-of in
-    let all = map elementOf (a .q .elements) in
+    let all = map elementFrom (a .q .elements) in
     let asked : length (a .q .elements) ≡ 8 = search (needs, c .before .before .before .before .before .before .before .before .before .good, length-mapped) in
     let eight : length (given .result) ≡ 8 = search (needs, given .ok, length-mapped) in
-    let first : take (a .q .count) (given .result) ≡ take (a .q .count) all = given .ensures ∙ map-take elementOf (a .q .count) (a .q .elements) in
+    let first : take (a .q .count) (given .result) ≡ take (a .q .count) all = given .ensures ∙ map-take elementFrom (a .q .count) (a .q .elements) in
     rw (c .reply-written .ensures)
     (ap numberedWrite
     (c .before .before .before .write-request .ensures
     ∙ ap (λ (k : Kind). writeRequest k (a .q .dialog) (given .result) (a .q .count) (a .buf .now)) (c .before .before .before .before .before .before .kind-of .ensures)
-    ∙ write-first (kindOf (a .q .kind)) (a .q .dialog) (given .result) all (a .q .count) eight (length-map (a .q .elements) elementOf ∙ asked) first (a .buf .now)))
+    ∙ write-first (kindOf (a .q .kind)) (a .q .dialog) (given .result) all (a .q .count) eight (length-map (a .q .elements) elementFrom ∙ asked) first (a .buf .now)))
 
 pub dultxibe-write-request-spec : {M : Type 1} → statement M
 dultxibe-write-request-spec =

@@ -3,14 +3,14 @@
 use Prim.Native.Nat.{ℕ, _+_, _-_, _≤_}
 use mathlib.Core.Path.{_≡_, sym, ap, _∙_}
 use native.Mathlib.Omega.{arith}
-use Rattle.traces.specs.Elements.{moreElements, elementsAt, startedTrace}
+use Rattle.traces.specs.Elements.{moreTraced, elementsAt, startedTrace}
 use Rattle.traces.proofs.WalkLaws.{elements-next, elements-done}
 use borrow.Author.Needs.{needs}
 use Rattle.traces.proofs.elements.elements_at.Statement.{statement}
 use Rattle.traces.proofs.elements.elements_at.Tie as tie
 
 abbrev Inv-loop : tie.InvT-loop
-Inv-loop s kind count from w₀ i₀ w i = (i ≤ count) × (elementsAt s kind count from ≡ moreElements s kind (count - i) i w)
+Inv-loop s kind count from w₀ i₀ w i = (i ≤ count) × (elementsAt s kind count from ≡ moreTraced s kind (count - i) i w)
 
 abbrev μ-loop : tie.MeasureT-loop
 μ-loop s kind count from w₀ i₀ w i = count - i
@@ -22,7 +22,7 @@ loop-holds : tie.Need-loop-holds Inv-loop μ-loop
 loop-holds c =
     let a = c .before .before .args in
     let e : a .count ≡ a .count - 0 = omega arith in
-    (omega arith, rw (c .no-element .ensures) (ap (λ (n : ℕ). moreElements (a .s .now) (a .kind) n 0 (startedTrace (a .from))) e))
+    (omega arith, rw (c .no-element .ensures) (ap (λ (n : ℕ). moreTraced (a .s .now) (a .kind) n 0 (startedTrace (a .from))) e))
 
 element-at-requires : tie.Need-element-at-requires Inv-loop μ-loop
 element-at-requires c κs = search needs
