@@ -1,16 +1,16 @@
 -- Laws of the listing: its time fields, the lines of the elements that the cursor hands out, and how long they are at most; what is read of a frame that is not refused.
 -- Assumes nothing.
 use Prim.Native.Nat.{ℕ, _+_, _*_, _-_, _≤_, _<_}
-use mathlib.Core.Path.{_≡_, refl, sym, ap, _∙_}
+use mathlib.Core.Path.{_≡_, refl, ap, _∙_}
 use mathlib.Core.Bool.{Bool, true, false}
 use mathlib.Core.List.{List, [], _∷_, _++_, append-nil}
 use native.Mathlib.Omega.{arith}
 use lib.ListN.{length, length-append}
-use lib.Dec.{eqb, ltb}
+use lib.Dec.{eqb}
 use borrow.Author.Tests.{eq-eqb, ne-eqb, eqb-true, eqb-false, ltb-false, not-true, not-false}
 use Rattle.laws.specs.Choice.{if_then_else_}
 use Rattle.laws.specs.Buffers.{pieces, wrote, putAt}
-use Rattle.laws.proofs.Choice.{either, never}
+use Rattle.laws.proofs.Choice.{either}
 use Rattle.laws.proofs.Pieces.{pieces-snoc}
 use Rattle.laws.proofs.Walk.{Rest, start, done, last, again, go-on, stop-refused, stop-end}
 use Rattle.octets.specs.declared.numbers.Kind.{Kind}
