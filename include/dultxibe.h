@@ -225,7 +225,7 @@ enum { DULTXIBE_FIRST_ELEMENT = 3 };
 struct dultxibe_reply dultxibe_write_request(struct dultxibe_request request, uint8_t *buffer,
                                              size_t length);
 
-/* Judges a whole report frame: cause 0; or refused by GROUP_DESTINATION, BAD_FRAME_LENGTH,
+/* Validates a whole report frame: cause 0; or refused by GROUP_DESTINATION, BAD_FRAME_LENGTH,
  * BAD_HEADER, ELEMENT_PAST_END, SHORT_ELEMENT, BAD_REPORT_BODY, BAD_TIME or BAD_SUBELEMENT. */
 struct dultxibe_report_frame dultxibe_read_report(const uint8_t destination[6],
                                                   const uint8_t *frame, size_t length);

@@ -40,7 +40,7 @@ trait Side: Copy {
     fn report(&mut self, reading: u32, kind: u8, buffer: &mut [u8]) -> Answer;
     fn roam(&mut self, reading: u32, list: &[[u8; 6]]) -> Answer;
     fn change_network(&mut self, reading: u32, list: &[[u8; 6]]) -> Answer;
-    /// Judges a report frame, then reads its elements: the count, and a sum over their fields.
+    /// Validates a report frame, then reads its elements: the count, and a sum over their fields.
     fn read(octets: &[u8]) -> (usize, u64);
 }
 

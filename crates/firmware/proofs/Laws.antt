@@ -10,6 +10,7 @@ use lib.Seq.{drop-cons, take-all}
 use native.Mathlib.Numerals.{add-one}
 use native.Mathlib.Omega.{arith}
 use borrow.Author.Tests.{ltb-true}
+use Rattle.requests.specs.Elements.{elementCapacity}
 use Rattle.laws.specs.Choice.{if_then_else_}
 use Rattle.octets.specs.declared.numbers.Kind.{Kind}
 use Rattle.requests.specs.declared.Element.{Element}
@@ -32,7 +33,7 @@ abbrev pub pastElements : RequestElement
 pastElements = record { token = 0; ty = 0; timeout = 0; limit = 0; filter = [] }
 
 -- the writer looks at no element past the count
-module _ (kind : Kind) (dialog : ℕ) (es fs : List Element) (count : ℕ) (e : length es ≡ 8) (f : length fs ≡ 8) (same : take count es ≡ take count fs) where
+module _ (kind : Kind) (dialog : ℕ) (es fs : List Element) (count : ℕ) (e : length es ≡ elementCapacity) (f : length fs ≡ elementCapacity) (same : take count es ≡ take count fs) where
   answer-first : elementsAnswer kind es count ≡ elementsAnswer kind fs count
   unfolding elementsAnswer if_then_else_
   answer-first = go (ltb 8 count) refl

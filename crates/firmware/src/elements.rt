@@ -4,6 +4,7 @@ use crate::ReportElement;
 use crate::RequestElement;
 use octets::least;
 use report_reader::Element;
+use requests::ELEMENT_CAPACITY;
 ghost use mathlib.Core.Path.{_≡_};
 ghost use mathlib.Core.List.{map};
 ghost use lib.ListN.{take};
@@ -53,10 +54,13 @@ fn element_of(e: RequestElement) -> requests::Element
 }
 
 // The first count elements of a request for the writer, which looks at no other; those are blank.
-pub fn elements_of(es: [RequestElement; 8], count: usize) -> [requests::Element; 8]
+pub fn elements_of(
+    es: [RequestElement; ELEMENT_CAPACITY],
+    count: usize,
+) -> [requests::Element; ELEMENT_CAPACITY]
     ensures { λ r. ⌜ take count r ≡ map elementFrom (take count es) ⌝ }
 {
-    let end = least(count, 8);
+    let end = least(count, ELEMENT_CAPACITY);
     let mut elements = [requests::Element {
         token: 0,
         ty: 0,
@@ -67,7 +71,7 @@ pub fn elements_of(es: [RequestElement; 8], count: usize) -> [requests::Element;
             present: false,
             octets: [0; 6],
         }; 5],
-    }; 8];
+    }; ELEMENT_CAPACITY];
     let mut i = end;
     while 0 < i {
         i -= 1;

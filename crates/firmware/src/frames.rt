@@ -65,7 +65,7 @@ pub extern "C" fn dultxibe_write_request(q: Request, buf: &mut [u8]) -> Reply
     ))
 }
 
-// Judges a whole report frame, given its destination.
+// Validates a whole report frame, given its destination.
 #[no_mangle]
 pub extern "C" fn dultxibe_read_report(destination: &[u8; 6], s: &[u8]) -> Report
     ensures { λ r. ⌜ r ≡ numberedReport (readReport (now (destination .entry)) (now (s .entry))) ⌝ }

@@ -6,6 +6,7 @@ mod elements;
 mod frames;
 
 use report_reader::Event;
+use requests::ELEMENT_CAPACITY;
 use station::Station;
 
 // An answer: code 0 accepted, 1 nothing, 2 a frame of a length, 3 refused by a cause at a place. What
@@ -50,7 +51,7 @@ pub struct Request {
     pub kind: u8,
     pub dialog: u8,
     pub count: usize,
-    pub elements: [RequestElement; 8],
+    pub elements: [RequestElement; ELEMENT_CAPACITY],
 }
 
 // A report frame: refused by a cause at a place; or cause 0, its kind (0 event, 1 diagnostic), dialog

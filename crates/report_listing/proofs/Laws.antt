@@ -21,7 +21,7 @@ use Rattle.texts.proofs.NumberLaws.{decimal-length}
 use Rattle.texts.proofs.PutLaws.{one, at-most, nothing, both}
 use Rattle.report_reader.specs.declared.Step.{Step}
 use Rattle.report_reader.specs.declared.Report.{Report}
-use Rattle.report_reader.specs.Reader.{stepAt, readReport, reportOf, judge, judgedReport, ElementRead, elementReadAt, Reading, reading, gathered, unread, readStep, readElements}
+use Rattle.report_reader.specs.Reader.{stepAt, readReport, reportOf, validate, validatedReport, ElementRead, elementReadAt, Reading, reading, gathered, unread, readStep, readElements}
 use Rattle.report_reader.proofs.Laws.{Forward, goes-on, Extent, found-extent, agrees}
 use Rattle.report_listing.specs.Listing.{timeField, reportElementLine, reportElementLines}
 use Rattle.report_listing.specs.Internal.{tailMost, stepLine, stepMost}
@@ -139,11 +139,11 @@ pub record Readable (s : List ℕ) (kind : Kind) : Type 0 where
 abbrev IsReadable : List ℕ → Report → Type 0
 IsReadable s r = r .refusal .number ≡ 0 → Readable s (r .kind)
 
-judged-readable : (s : List ℕ) (kind : Kind) → length s ≤ 2304 → IsReadable s (judgedReport s kind)
+validated-readable : (s : List ℕ) (kind : Kind) → length s ≤ 2304 → IsReadable s (validatedReport s kind)
 unfolding reportOf
-judged-readable s kind few =
-    either (IsReadable s) _ _ _ (λ p z. absurd (eqb-false (judge s kind .refusal .number) 0 (not-true _ p) z))
-    (λ p _. record { few = few; fine = rw (agrees s kind) at (eqb-true (judge s kind .refusal .number) 0 (not-false _ p)) })
+validated-readable s kind few =
+    either (IsReadable s) _ _ _ (λ p z. absurd (eqb-false (validate s kind .refusal .number) 0 (not-true _ p) z))
+    (λ p _. record { few = few; fine = rw (agrees s kind) at (eqb-true (validate s kind .refusal .number) 0 (not-false _ p)) })
 
 read-readable : (destination s : List ℕ) → IsReadable s (readReport destination s)
 unfolding readReport
@@ -153,8 +153,8 @@ read-readable destination s =
     (λ _. either (IsReadable s) _ _ _ (λ _ z. absurd (omega arith))
     (λ p. let few : length s ≤ 2304 = ltb-false 2304 (length s) p in
     either (IsReadable s) _ _ _ (λ _ z. absurd (omega arith))
-    (λ _. either (IsReadable s) _ _ _ (λ _. judged-readable s Event few)
-    (λ _. either (IsReadable s) _ _ _ (λ _. judged-readable s Diagnostic few) (λ _ z. absurd (omega arith)))))))
+    (λ _. either (IsReadable s) _ _ _ (λ _. validated-readable s Event few)
+    (λ _. either (IsReadable s) _ _ _ (λ _. validated-readable s Diagnostic few) (λ _ z. absurd (omega arith)))))))
 
 pub readable : (destination s : List ℕ) (r : Report) → r ≡ readReport destination s → IsReadable s r
 readable destination s r is = rw is (read-readable destination s)

@@ -1,4 +1,4 @@
--- Laws of the reader: a step that is not refused moves on, and not past the end; its verdict says the rest of it; where a transition stands, an element was found, and how many octets it takes; the judgement agrees with the cursor's walk.
+-- Laws of the reader: a step that is not refused moves on, and not past the end; its verdict says the rest of it; where a transition stands, an element was found, and how many octets it takes; the validation agrees with the cursor's walk.
 -- Assumes nothing.
 use Prim.Native.Nat.{ℕ, _+_, _-_, _≤_, _<_}
 use mathlib.Core.Path.{_≡_, refl}
@@ -21,7 +21,7 @@ use Rattle.subelements.specs.Subelements.{walk}
 use Rattle.report_reader.specs.declared.Step.{Step}
 use Rattle.report_reader.specs.declared.Verdict.{Verdict}
 use Rattle.report_reader.specs.declared.Walk.{Walk}
-use Rattle.report_reader.specs.Reader.{refusedStep, skippedStep, foundStep, plainStep, loggedStep, bareStep, transitionStep, eventStep, walkedStep, diagnosticStep, kindStep, ownReportStep, stepAt, atWalk, advanced, moreReports, judgeStep, judge, elementReadAt, Reading, reading, gathered, unread, readStep, readElements}
+use Rattle.report_reader.specs.Reader.{refusedStep, skippedStep, foundStep, plainStep, loggedStep, bareStep, transitionStep, eventStep, walkedStep, diagnosticStep, kindStep, ownReportStep, stepAt, atWalk, advanced, moreReports, validateStep, validate, elementReadAt, Reading, reading, gathered, unread, readStep, readElements}
 use Rattle.report_reader.specs.Internal.{verdictOf, transitionAt, foundElement, Fits, stepOf}
 
 -- ---- an event report of length 3 is plain
@@ -162,7 +162,7 @@ stands-extends s at (is-logged h) e = record { least = omega arith; event = λ _
 pub found-extent : (s : List ℕ) (kind : Kind) (at : ℕ) (t : Step) → t ≡ stepAt s kind at → t .found ≡ true → Extent at t
 found-extent s kind at t e f = rw e (stands-extends s at (stands s kind at) (rw e at f))
 
--- ---- the judgement's step moves on too, and its position bounds its count
+-- ---- the validation's step moves on too, and its position bounds its count
 
 pub record Moved (end : ℕ) (w r : Walk) : Type 0 where
   pub on : w .at < r .at
@@ -180,11 +180,11 @@ advanced-moves s w t f c =
     (λ _ _. record { on = g .on; within = g .within; counted = omega (arith, g .on) })
     (λ _ _. record { on = g .on; within = g .within; counted = omega (arith, g .on) }))
 
-pub moved : (s : List ℕ) (kind : Kind) {w r : Walk} → r ≡ judgeStep s kind w → w .count ≤ w .at → r .refusal .number ≡ 0 → Moved (length s) w r
-unfolding judgeStep
+pub moved : (s : List ℕ) (kind : Kind) {w r : Walk} → r ≡ validateStep s kind w → w .count ≤ w .at → r .refusal .number ≡ 0 → Moved (length s) w r
+unfolding validateStep
 moved s kind {w} e c z = rw e (advanced-moves s w (stepAt s kind (w .at)) (step-goes s kind (w .at)) c (rw e at z))
 
--- ---- the judgement agrees with the cursor's walk
+-- ---- the validation agrees with the cursor's walk
 
 -- what it sees of the elements that are handed out
 abbrev viewed : Reading → Walk
@@ -201,7 +201,7 @@ gathered-viewed s w t = go (not (eqb (t .refusal .number) 0)) (t .found)
     go false true = rw (length-append (w .elements) (elementReadAt s t ∷ []))
     go false false = refl
 
-pub agrees : (s : List ℕ) (kind : Kind) → judge s kind ≡ viewed (readElements s kind)
-unfolding judge readElements judgeStep readStep
+pub agrees : (s : List ℕ) (kind : Kind) → validate s kind ≡ viewed (readElements s kind)
+unfolding validate readElements validateStep readStep
 agrees s kind =
-    view-walk viewed (unread (length s)) (moreReports (length s)) (readStep s kind) (judgeStep s kind) (λ _. refl) (λ w. gathered-viewed s w (stepAt s kind (w .at))) (length s) (reading noRefusal 3 [])
+    view-walk viewed (unread (length s)) (moreReports (length s)) (readStep s kind) (validateStep s kind) (λ _. refl) (λ w. gathered-viewed s w (stepAt s kind (w .at))) (length s) (reading noRefusal 3 [])

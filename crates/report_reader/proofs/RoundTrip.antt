@@ -36,7 +36,7 @@ use Rattle.reports.specs.Reports.{reportElement, eventElement}
 use Rattle.report_reader.specs.declared.Event.{Event as Fields}
 use Rattle.report_reader.specs.declared.Element.{Element}
 use Rattle.report_reader.specs.declared.Step.{Step}
-use Rattle.report_reader.specs.Reader.{part, eventAt, plainElement, loggedElement, foundStep, plainStep, loggedStep, transitionStep, eventStep, walkedStep, diagnosticStep, ownReportStep, stepAt, reportOf, judgedReport, readReport, elementReadAt, reading, gathered, unread, readStep, readElements}
+use Rattle.report_reader.specs.Reader.{part, eventAt, plainElement, loggedElement, foundStep, plainStep, loggedStep, transitionStep, eventStep, walkedStep, diagnosticStep, ownReportStep, stepAt, reportOf, validatedReport, readReport, elementReadAt, reading, gathered, unread, readStep, readElements}
 use Rattle.report_reader.specs.Contents.{Content, statusOnly, loggedEvent, keptUnread, withSubelements, Valid, contentOctets, contentFrame, reported, contentRead, ReadAs, ReportRoundTrip}
 use Rattle.report_reader.proofs.Laws.{short-event, agrees}
 
@@ -307,7 +307,7 @@ content-some kind (keptUnread token ty o) = omega arith
 content-some kind (withSubelements token ty status ps) = omega arith
 
 header-back : (kind : Kind) (dialog : ℕ) (o destination : List ℕ) → isGroup destination ≡ false → 3 + length o ≤ longestFrame
-    → readReport destination (category ∷ reportAction kind ∷ dialog ∷ o) ≡ judgedReport (category ∷ reportAction kind ∷ dialog ∷ o) kind
+    → readReport destination (category ∷ reportAction kind ∷ dialog ∷ o) ≡ validatedReport (category ∷ reportAction kind ∷ dialog ∷ o) kind
 unfolding readReport if_then_else_
 header-back Event dialog o destination single fits = rw (single, le-ltb (suc (suc (suc (length o)))) 3 (omega arith), le-ltb 2304 (suc (suc (suc (length o)))) (omega arith))
 header-back Diagnostic dialog o destination single fits = rw (single, le-ltb (suc (suc (suc (length o)))) 3 (omega arith), le-ltb 2304 (suc (suc (suc (length o)))) (omega arith))
@@ -336,7 +336,7 @@ module _ (kind : Kind) (dialog : ℕ) (xs : List (Content kind)) where
         (start _ _ (length frame) _ _ (omega arith)))
         (stop-end 0 (length frame) (length frame) refl (omega arith)))
 
-    -- the frame is judged to have as many elements as were told
+    -- the frame is validated to have as many elements as were told
     report-back : (d : List ℕ) → isGroup d ≡ false → length frame ≤ longestFrame → readReport d frame ≡ record { refusal = noRefusal; kind = kind; dialog = dialog; count = length xs }
     unfolding reportOf if_then_else_
     report-back d single fits =

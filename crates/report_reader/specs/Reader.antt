@@ -143,12 +143,12 @@ advanced w t =
 abbrev pub moreReports : ℕ → Walk → Bool
 moreReports end w = eqb (w .refusal .number) 0 && ltb (w .at) end
 
-unfoldable pub judgeStep : List ℕ → Kind → Walk → Walk
-judgeStep s kind w = advanced w (stepAt s kind (w .at))
+unfoldable pub validateStep : List ℕ → Kind → Walk → Walk
+validateStep s kind w = advanced w (stepAt s kind (w .at))
 
 -- all elements from the front; the first refusal stops
-unfoldable pub judge : List ℕ → Kind → Walk
-judge s kind = repeatWhile (length s) (moreReports (length s)) (judgeStep s kind) (atWalk noRefusal 3 0)
+unfoldable pub validate : List ℕ → Kind → Walk
+validate s kind = repeatWhile (length s) (moreReports (length s)) (validateStep s kind) (atWalk noRefusal 3 0)
 
 -- a refused frame: everything but the refusal is fixed
 abbrev pub refusedReport : ℕ → ℕ → Report
@@ -160,8 +160,8 @@ reportOf kind dialog w =
     if not (eqb (w .refusal .number) 0) then refusedReport (w .refusal .number) (w .refusal .place)
     else record { refusal = noRefusal; kind = kind; dialog = dialog; count = w .count }
 
-abbrev pub judgedReport : List ℕ → Kind → Report
-judgedReport s kind = reportOf kind (getD s 2 0) (judge s kind)
+abbrev pub validatedReport : List ℕ → Kind → Report
+validatedReport s kind = reportOf kind (getD s 2 0) (validate s kind)
 
 -- "Group destination" (11); "Frame under 3 or over 2,304 octets" (1); "Category not 10; action not .. 1 or 3 (reports)" (2)
 unfoldable pub readReport : List ℕ → List ℕ → Report
@@ -170,8 +170,8 @@ readReport destination s =
     else if ltb (length s) shortestFrame then refusedReport badFrameLength 0
     else if ltb longestFrame (length s) then refusedReport badFrameLength 0
     else if not (eqb (getD s 0 0) category) then refusedReport badHeader 0
-    else if eqb (getD s 1 0) (reportAction EventKind) then judgedReport s EventKind
-    else if eqb (getD s 1 0) (reportAction Diagnostic) then judgedReport s Diagnostic
+    else if eqb (getD s 1 0) (reportAction EventKind) then validatedReport s EventKind
+    else if eqb (getD s 1 0) (reportAction Diagnostic) then validatedReport s Diagnostic
     else refusedReport badHeader 0
 
 -- ---- the elements that the cursor hands out, from the front to the end or to the first refusal

@@ -1,4 +1,4 @@
-// Report frames, read (document 01, causes 11, 1, 2, then 4, 5, 17, 14 and 7): a frame is judged
+// Report frames, read (document 01, causes 11, 1, 2, then 4, 5, 17, 14 and 7): a frame is validated
 // whole, and a cursor hands out its elements.
 use octets::Kind;
 use octets::Refusal;
@@ -19,8 +19,8 @@ ghost use mathlib.Core.List.{List};
 ghost use Prim.Native.Nat.{ℕ, _+_, _^_, _≤_, _<_};
 ghost use lib.ListN.{length};
 ghost use Rattle.report_reader.specs.declared.Step.{Step};
-ghost use Rattle.report_reader.specs.Reader.{part, noEvent, eventAt, refusedStep, skippedStep, plainStep, loggedStep, transitionStep, eventStep, walkedStep, diagnosticStep, ownReportStep, stepAt, atWalk, advanced, refusedReport, reportOf, judgedReport, readReport};
-ghost use Rattle.report_reader.specs.Reader.{judge as Reader·judge};
+ghost use Rattle.report_reader.specs.Reader.{part, noEvent, eventAt, refusedStep, skippedStep, plainStep, loggedStep, transitionStep, eventStep, walkedStep, diagnosticStep, ownReportStep, stepAt, atWalk, advanced, refusedReport, reportOf, validatedReport, readReport};
+ghost use Rattle.report_reader.specs.Reader.{validate as Reader·validate};
 ghost use Rattle.report_reader.specs.Internal.{verdictOf, transitionAt, foundElement, Fits, stepOf};
 
 // A reported transition; the signals are source RCPI, source RSNI, target RCPI and target RSNI.
@@ -63,7 +63,7 @@ pub struct Step {
     pub next: Cursor,
 }
 
-// What the judgement of a frame sees of a step: of the element's fields only whether it holds a
+// What the validation of a frame sees of a step: of the element's fields only whether it holds a
 // transition and how many subelements. Next is the position behind it.
 pub struct Verdict {
     pub refusal: Refusal,
@@ -73,7 +73,7 @@ pub struct Verdict {
     pub next: usize,
 }
 
-// How far a frame is judged: refused, or the next position and the number of elements.
+// How far a frame is validated: refused, or the next position and the number of elements.
 pub struct Walk {
     pub refusal: Refusal,
     pub at: usize,
@@ -206,7 +206,7 @@ fn logged(at: usize) -> Verdict
 }
 
 // A Successful report of event type 0, not of length 3.
-fn judge_transition(s: &[u8], at: usize, n: usize) -> Verdict
+fn validate_transition(s: &[u8], at: usize, n: usize) -> Verdict
     requires { ⌜ (n ≡ 3 → ⊥) × (at + 2 + n ≤ length (now s)) ⌝ }
     ensures { λ r. ⌜ r ≡ verdictOf (transitionStep (now (s .entry)) at n) ⌝ }
 {
@@ -220,7 +220,7 @@ fn judge_transition(s: &[u8], at: usize, n: usize) -> Verdict
 }
 
 // An event report; one of length 3 has nothing more, whatever its status and type.
-fn judge_event(s: &[u8], at: usize, n: usize, end: usize) -> Verdict
+fn validate_event(s: &[u8], at: usize, n: usize, end: usize) -> Verdict
     requires { ⌜ (3 ≤ n) × (end ≡ at + 2 + n) × (end ≤ length (now s)) ⌝ }
     ensures { λ r. ⌜ r ≡ verdictOf (eventStep (now (s .entry)) at n) ⌝ }
 {
@@ -232,12 +232,12 @@ fn judge_event(s: &[u8], at: usize, n: usize, end: usize) -> Verdict
     }
     let ty = s[at + 3];
     match ty {
-        0 => judge_transition(s, at, n),
+        0 => validate_transition(s, at, n),
         1..=255 => plain(end, 0),
     }
 }
 
-fn judge_walked(end: usize, w: Subelements) -> Verdict
+fn validate_walked(end: usize, w: Subelements) -> Verdict
     ensures { λ r. ⌜ ((s : List ℕ) (at n : ℕ) → end ≡ at + 2 + n → r ≡ verdictOf (walkedStep s at n w)) ⌝ }
 {
     if w.refusal.number != 0 {
@@ -246,15 +246,15 @@ fn judge_walked(end: usize, w: Subelements) -> Verdict
     plain(end, w.count)
 }
 
-fn judge_diagnostic(s: &[u8], at: usize, end: usize) -> Verdict
+fn validate_diagnostic(s: &[u8], at: usize, end: usize) -> Verdict
     requires { ⌜ (at + 5 ≤ end) × (end ≤ length (now s)) ⌝ }
     ensures { λ r. ⌜ ((n : ℕ) → end ≡ at + 2 + n → r ≡ verdictOf (diagnosticStep (now (s .entry)) at n)) ⌝ }
 {
-    judge_walked(end, walk_edges(s, at + 5, end))
+    validate_walked(end, walk_edges(s, at + 5, end))
 }
 
 // An element of the frame's own ID, with n octets of body up to its end.
-fn judge_own(s: &[u8], kind: Kind, at: usize, n: usize, end: usize) -> Verdict
+fn validate_own(s: &[u8], kind: Kind, at: usize, n: usize, end: usize) -> Verdict
     requires { ⌜ (end ≡ at + 2 + n) × (end ≤ length (now s)) ⌝ }
     ensures { λ r. ⌜ r ≡ verdictOf (ownReportStep (now (s .entry)) kind at n) ⌝ }
 {
@@ -265,13 +265,13 @@ fn judge_own(s: &[u8], kind: Kind, at: usize, n: usize, end: usize) -> Verdict
         return refused(causes::BAD_REPORT_BODY, at);
     }
     match kind {
-        Kind::Event => judge_event(s, at, n, end),
-        Kind::Diagnostic => judge_diagnostic(s, at, end),
+        Kind::Event => validate_event(s, at, n, end),
+        Kind::Diagnostic => validate_diagnostic(s, at, end),
     }
 }
 
-// What stands at a position, judged.
-fn judge_at(s: &[u8], kind: Kind, at: usize) -> Verdict
+// What stands at a position, validated.
+fn validate_at(s: &[u8], kind: Kind, at: usize) -> Verdict
     ensures { λ r. ⌜ r ≡ verdictOf (stepAt (now (s .entry)) kind at) ⌝ }
 {
     let end = piece_end(s, at, s.len());
@@ -281,7 +281,7 @@ fn judge_at(s: &[u8], kind: Kind, at: usize) -> Verdict
     if octet(s, at) != kind.report_id() {
         return skipped(end);
     }
-    judge_own(s, kind, at, size(s, at + 1), end)
+    validate_own(s, kind, at, size(s, at + 1), end)
 }
 
 // ---- its step, by the verdict
@@ -359,7 +359,7 @@ impl Cursor {
         ensures { λ r. ⌜ r ≡ stepAt (now (s .entry)) kind (self .at) ⌝ }
     {
         let at = self.at;
-        step_of(s, at, judge_at(s, kind, at))
+        step_of(s, at, validate_at(s, kind, at))
     }
 }
 
@@ -386,12 +386,12 @@ fn advance(w: Walk, v: Verdict) -> Walk
     walk_of(Refusal::none(), v.next, w.count)
 }
 
-fn judge(s: &[u8], kind: Kind) -> Walk
-    ensures { λ r. ⌜ r ≡ Reader·judge (now (s .entry)) kind ⌝ }
+fn validate(s: &[u8], kind: Kind) -> Walk
+    ensures { λ r. ⌜ r ≡ Reader·validate (now (s .entry)) kind ⌝ }
 {
     let mut w = walk_of(Refusal::none(), 3, 0);
     while w.at < s.len() {
-        w = advance(w, judge_at(s, kind, w.at));
+        w = advance(w, validate_at(s, kind, w.at));
         if w.refusal.number != 0 {
             return w;
         }
@@ -427,13 +427,13 @@ fn report_of(kind: Kind, dialog: u8, w: Walk) -> Report
 }
 
 // A frame of a kind, by its elements.
-fn judged(s: &[u8], kind: Kind) -> Report
-    ensures { λ r. ⌜ r ≡ judgedReport (now (s .entry)) kind ⌝ }
+fn validated(s: &[u8], kind: Kind) -> Report
+    ensures { λ r. ⌜ r ≡ validatedReport (now (s .entry)) kind ⌝ }
 {
-    report_of(kind, octet(s, 2), judge(s, kind))
+    report_of(kind, octet(s, 2), validate(s, kind))
 }
 
-// Judges a whole frame, given its destination.
+// Validates a whole frame, given its destination.
 pub fn read_report(destination: [u8; 6], s: &[u8]) -> Report
     ensures { λ r. ⌜ r ≡ readReport destination (now (s .entry)) ⌝ }
 {
@@ -451,10 +451,10 @@ pub fn read_report(destination: [u8; 6], s: &[u8]) -> Report
     }
     let action = octet(s, 1);
     if action == Kind::Event.report_action() {
-        return judged(s, Kind::Event);
+        return validated(s, Kind::Event);
     }
     if action == Kind::Diagnostic.report_action() {
-        return judged(s, Kind::Diagnostic);
+        return validated(s, Kind::Diagnostic);
     }
     refused_report(causes::BAD_HEADER, 0)
 }

@@ -125,7 +125,12 @@ fn of_length(length: usize) -> Written
 
 // The elements at the front of a buffer, as they stand behind the header. Where one is refused, the
 // buffer has those before it.
-fn put_elements(buf: &mut [u8], kind: Kind, es: [Element; 8], count: usize) -> Written
+fn put_elements(
+    buf: &mut [u8],
+    kind: Kind,
+    es: [Element; ELEMENT_CAPACITY],
+    count: usize,
+) -> Written
     requires { ⌜ length (now buf) ≡ 264 ⌝ }
     ensures { λ r. ⌜ (r ≡ elementsAnswer kind es count) × (r .length ≤ 267) ⌝ }
     ensures { λ r. ⌜ (r .refusal .number ≡ 0 → now (buf .exit) ≡ onto (elementsOctets kind (take count es)) (now (buf .entry))) ⌝ }
@@ -163,7 +168,7 @@ fn frame_answer(kind: Kind, count: usize, w: Written) -> Written
 pub fn write_request(
     kind: Kind,
     dialog: u8,
-    elements: [Element; 8],
+    elements: [Element; ELEMENT_CAPACITY],
     count: usize,
     buf: &mut [u8],
 ) -> Written
@@ -188,7 +193,7 @@ pub fn write_request(
 }
 
 // A request written, and read back.
-pub fn echo(kind: Kind, dialog: u8, elements: [Element; 8], count: usize) -> Request
+pub fn echo(kind: Kind, dialog: u8, elements: [Element; ELEMENT_CAPACITY], count: usize) -> Request
     ensures { λ r. ⌜ r ≡ echoed kind dialog elements count ⌝ }
 {
     let mut buf = [0u8; 267];

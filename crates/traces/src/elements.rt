@@ -5,6 +5,7 @@ use octets::octet;
 use octets::pair_at;
 use octets::piece_end;
 use octets::size;
+use requests::ELEMENT_CAPACITY;
 use requests::Element;
 use subelements::Condition;
 use subelements::walk_request;
@@ -21,7 +22,7 @@ pub struct Recorded {
 // The first eight elements, and where all of them end; 0: refused.
 pub struct Elements {
     pub end: usize,
-    pub elements: [Element; 8],
+    pub elements: [Element; ELEMENT_CAPACITY],
 }
 
 fn no_element() -> Element
@@ -148,12 +149,16 @@ fn element_at(s: &[u8], kind: Kind, at: usize) -> Recorded
 }
 
 // With an element in its place, where it is one of the first eight.
-fn keep(elements: [Element; 8], i: u8, element: Element) -> [Element; 8]
+fn keep(
+    elements: [Element; ELEMENT_CAPACITY],
+    i: u8,
+    element: Element,
+) -> [Element; ELEMENT_CAPACITY]
     ensures { λ r. ⌜ r ≡ set elements i element ⌝ }
 {
     let place = i as usize;
     let mut elements = elements;
-    if 8 <= place {
+    if ELEMENT_CAPACITY <= place {
         return elements;
     }
     elements[place] = element;
@@ -177,7 +182,7 @@ pub fn elements_at(s: &[u8], kind: Kind, count: u8, from: usize) -> Elements
 {
     let mut w = Elements {
         end: from,
-        elements: [no_element(); 8],
+        elements: [no_element(); ELEMENT_CAPACITY],
     };
     let mut i: u8 = 0;
     while i < count {

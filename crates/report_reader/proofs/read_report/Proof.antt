@@ -50,24 +50,24 @@ octet-requires-2 c κs = search needs
 report-action-requires : tie.Need-report-action-requires
 report-action-requires c κs = search needs
 
-judged-requires : tie.Need-judged-requires
-judged-requires c κs = search needs
+validated-requires : tie.Need-validated-requires
+validated-requires c κs = search needs
 
 returns-5 : tie.Need-returns-5
 unfolding readReport if_then_else_
 returns-5 c =
-    rw (← c .before .before .before .before .before .before .before .before .before .is-group .ensures, c .before .before .before .before .before .before .before .before .if1 .left, le-ltb _ 3 (c .before .before .before .before .before .before .before .if2 .left), le-ltb 2304 _ (c .before .before .before .before .before .before .if3 .left), ← c .before .before .before .before .before .octet .ensures, eq-eqb _ 10 (c .before .before .before .before .if4 .left), ← c .before .before .before .octet2 .ensures, ← c .before .before .report-action .ensures, eq-eqb _ _ (c .before .if5 .taken)) (c .judged .ensures)
+    rw (← c .before .before .before .before .before .before .before .before .before .is-group .ensures, c .before .before .before .before .before .before .before .before .if1 .left, le-ltb _ 3 (c .before .before .before .before .before .before .before .if2 .left), le-ltb 2304 _ (c .before .before .before .before .before .before .if3 .left), ← c .before .before .before .before .before .octet .ensures, eq-eqb _ 10 (c .before .before .before .before .if4 .left), ← c .before .before .before .octet2 .ensures, ← c .before .before .report-action .ensures, eq-eqb _ _ (c .before .if5 .taken)) (c .validated .ensures)
 
 report-action-requires-2 : tie.Need-report-action-requires-2
 report-action-requires-2 c κs = search needs
 
-judged-requires-2 : tie.Need-judged-requires-2
-judged-requires-2 c κs = search needs
+validated-requires-2 : tie.Need-validated-requires-2
+validated-requires-2 c κs = search needs
 
 returns-6 : tie.Need-returns-6
 unfolding readReport if_then_else_
 returns-6 c =
-    rw (← c .before .before .before .before .before .before .before .before .before .before .before .is-group .ensures, c .before .before .before .before .before .before .before .before .before .before .if1 .left, le-ltb _ 3 (c .before .before .before .before .before .before .before .before .before .if2 .left), le-ltb 2304 _ (c .before .before .before .before .before .before .before .before .if3 .left), ← c .before .before .before .before .before .before .before .octet .ensures, eq-eqb _ 10 (c .before .before .before .before .before .before .if4 .left), ← c .before .before .before .before .before .octet2 .ensures, ← c .before .before .before .before .report-action .ensures, ne-eqb _ _ (c .before .before .before .if5 .left), ← c .before .before .report-action2 .ensures, eq-eqb _ _ (c .before .if6 .taken)) (c .judged2 .ensures)
+    rw (← c .before .before .before .before .before .before .before .before .before .before .before .is-group .ensures, c .before .before .before .before .before .before .before .before .before .before .if1 .left, le-ltb _ 3 (c .before .before .before .before .before .before .before .before .before .if2 .left), le-ltb 2304 _ (c .before .before .before .before .before .before .before .before .if3 .left), ← c .before .before .before .before .before .before .before .octet .ensures, eq-eqb _ 10 (c .before .before .before .before .before .before .if4 .left), ← c .before .before .before .before .before .octet2 .ensures, ← c .before .before .before .before .report-action .ensures, ne-eqb _ _ (c .before .before .before .if5 .left), ← c .before .before .report-action2 .ensures, eq-eqb _ _ (c .before .if6 .taken)) (c .validated2 .ensures)
 
 refused-report-requires-5 : tie.Need-refused-report-requires-5
 refused-report-requires-5 c κs = search needs
@@ -93,10 +93,10 @@ read-report-spec =
     returns-4
     octet-requires-2
     report-action-requires
-    judged-requires
+    validated-requires
     returns-5
     report-action-requires-2
-    judged-requires-2
+    validated-requires-2
     returns-6
     refused-report-requires-5
     returns-7)

@@ -5,6 +5,7 @@ use mathlib.Core.Path.{_≡_, refl, sym, ap, _∙_}
 use mathlib.Core.List.{map}
 use native.Mathlib.Omega.{arith}
 use lib.ListN.{length, take, drop, length-set}
+use Rattle.requests.specs.Elements.{elementCapacity}
 use Rattle.laws.proofs.Arrays.{length-mapped, take-within, fill-none, fill-back, mapped-within}
 use Rattle.firmware.specs.Numbers.{elementFrom}
 use Rattle.firmware.proofs.Laws.{pastElements}
@@ -14,7 +15,7 @@ use Rattle.firmware.proofs.elements.elements_of.Tie as tie
 
 abbrev Inv-loop : tie.InvT-loop
 Inv-loop count es end elements₀ i₀ elements i =
-    (i ≤ end) × (end ≤ 8) × (length es ≡ 8) × (length elements ≡ 8) × (drop i (take end elements) ≡ map elementFrom (drop i (take end es)))
+    (i ≤ end) × (end ≤ elementCapacity) × (length es ≡ elementCapacity) × (length elements ≡ elementCapacity) × (drop i (take end elements) ≡ map elementFrom (drop i (take end es)))
 
 abbrev μ-loop : tie.MeasureT-loop
 μ-loop count es end elements₀ i₀ elements i = i
@@ -26,7 +27,7 @@ loop-holds : tie.Need-loop-holds Inv-loop μ-loop
 loop-holds c =
     let es = c .before .args .t1 in
     let end = c .least .result in
-    let eight : length es ≡ 8 = search (needs, length-mapped) in
+    let eight : length es ≡ elementCapacity = search (needs, length-mapped) in
     (omega arith, omega (arith, c .least .ensures), eight, search needs, fill-none end _ ∙ sym (ap (map elementFrom) (fill-none end es)))
 
 sub-i : tie.Need-sub-i Inv-loop μ-loop

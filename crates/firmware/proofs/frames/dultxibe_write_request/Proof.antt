@@ -3,6 +3,7 @@
 use mathlib.Core.Path.{_≡_, sym, ap, _∙_}
 use mathlib.Core.List.{map}
 use lib.ListN.{length, take, length-map}
+use Rattle.requests.specs.Elements.{elementCapacity}
 use Rattle.octets.specs.Numbers.{kindOf}
 use Rattle.laws.proofs.Arrays.{length-mapped, map-take}
 use Rattle.octets.specs.declared.numbers.Kind.{Kind}
@@ -33,8 +34,8 @@ returns c =
     let a = c .before .before .before .before .before .before .before .before .before .args in
     let given = c .before .before .before .before .before .elements-of in
     let all = map elementFrom (a .q .elements) in
-    let asked : length (a .q .elements) ≡ 8 = search (needs, c .before .before .before .before .before .before .before .before .before .good, length-mapped) in
-    let eight : length (given .result) ≡ 8 = search (needs, given .ok, length-mapped) in
+    let asked : length (a .q .elements) ≡ elementCapacity = search (needs, c .before .before .before .before .before .before .before .before .before .good, length-mapped) in
+    let eight : length (given .result) ≡ elementCapacity = search (needs, given .ok, length-mapped) in
     let first : take (a .q .count) (given .result) ≡ take (a .q .count) all = given .ensures ∙ map-take elementFrom (a .q .count) (a .q .elements) in
     rw (c .reply-written .ensures)
     (ap numberedWrite

@@ -6,14 +6,14 @@ use borrow.Author.Needs.{needs}
 use Rattle.report_reader.proofs.Cursor.next.Statement.{statement}
 use Rattle.report_reader.proofs.Cursor.next.Tie as tie
 
-judge-at-requires : tie.Need-judge-at-requires
-judge-at-requires c κs = search needs
+validate-at-requires : tie.Need-validate-at-requires
+validate-at-requires c κs = search needs
 
 step-of-requires : tie.Need-step-of-requires
-step-of-requires c κs = let a = c .before .before .args in step-fits (a .s .now) (a .kind) (a .self .at) (c .judge-at .ensures)
+step-of-requires c κs = let a = c .before .before .args in step-fits (a .s .now) (a .kind) (a .self .at) (c .validate-at .ensures)
 
 returns : tie.Need-returns
-returns c = let a = c .before .before .before .args in c .step-of .ensures ∙ rw (c .before .judge-at .ensures) (step-told (a .s .now) (a .kind) (a .self .at))
+returns c = let a = c .before .before .before .args in c .step-of .ensures ∙ rw (c .before .validate-at .ensures) (step-told (a .s .now) (a .kind) (a .self .at))
 
 pub next-spec : {M : Type 1} → statement M
-next-spec = tie.close (tie.spec judge-at-requires step-of-requires returns)
+next-spec = tie.close (tie.spec validate-at-requires step-of-requires returns)

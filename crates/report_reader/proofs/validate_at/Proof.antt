@@ -1,4 +1,4 @@
--- `report_reader::judge_at` meets its contract: each return rewrites with the tests that led there.
+-- `report_reader::validate_at` meets its contract: each return rewrites with the tests that led there.
 -- Assumes nothing.
 use mathlib.Core.Path.{_∙_}
 use native.Mathlib.Omega.{arith}
@@ -8,8 +8,8 @@ use Rattle.laws.specs.Choice.{if_then_else_}
 use Rattle.octets.proofs.ElementLaws.{piece-ends}
 use Rattle.report_reader.specs.Reader.{stepAt}
 use borrow.Author.Needs.{needs}
-use Rattle.report_reader.proofs.judge_at.Statement.{statement}
-use Rattle.report_reader.proofs.judge_at.Tie as tie
+use Rattle.report_reader.proofs.validate_at.Statement.{statement}
+use Rattle.report_reader.proofs.validate_at.Tie as tie
 
 piece-end-requires : tie.Need-piece-end-requires
 piece-end-requires c κs = search needs
@@ -44,8 +44,8 @@ add-size c =
 size-requires : tie.Need-size-requires
 size-requires c κs = search needs
 
-judge-own-requires : tie.Need-judge-own-requires
-judge-own-requires c κs =
+validate-own-requires : tie.Need-validate-own-requires
+validate-own-requires c κs =
     let a = c .before .before .before .before .before .before .before .args in
     let e = piece-ends (a .s .now) (a .at) (length (a .s .now)) (λ z. c .before .before .before .before .if1 .left (c .before .before .before .before .before .piece-end .ensures ∙ z)) in
     (omega (arith, c .size .ensures .0, e .is), omega (arith, c .before .before .before .before .before .piece-end .ensures, e .within))
@@ -53,10 +53,10 @@ judge-own-requires c κs =
 returns-3 : tie.Need-returns-3
 unfolding stepAt if_then_else_
 returns-3 c =
-    rw (← c .before .before .before .before .before .before .piece-end .ensures, ne-eqb _ 0 (c .before .before .before .before .before .if1 .left), ← c .before .before .before .before .octet .ensures, ← c .before .before .before .report-id .ensures, eq-eqb _ _ (c .before .before .if2 .left), ← c .before .size .ensures .0) (c .judge-own .ensures)
+    rw (← c .before .before .before .before .before .before .piece-end .ensures, ne-eqb _ 0 (c .before .before .before .before .before .if1 .left), ← c .before .before .before .before .octet .ensures, ← c .before .before .before .report-id .ensures, eq-eqb _ _ (c .before .before .if2 .left), ← c .before .size .ensures .0) (c .validate-own .ensures)
 
-pub judge-at-spec : {M : Type 1} → statement M
-judge-at-spec =
+pub validate-at-spec : {M : Type 1} → statement M
+validate-at-spec =
     tie.close
     (tie.spec
     piece-end-requires
@@ -68,5 +68,5 @@ judge-at-spec =
     returns-2
     add-size
     size-requires
-    judge-own-requires
+    validate-own-requires
     returns-3)

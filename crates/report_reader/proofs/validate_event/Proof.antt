@@ -1,4 +1,4 @@
--- `report_reader::judge_event` meets its contract: by length, status and type number.
+-- `report_reader::validate_event` meets its contract: by length, status and type number.
 -- Assumes nothing.
 use native.Mathlib.Omega.{arith}
 use borrow.Author.Tests.{eq-eqb, ne-eqb}
@@ -6,8 +6,8 @@ use Rattle.laws.specs.Choice.{if_then_else_}
 use Rattle.report_reader.specs.Reader.{bareStep, eventStep}
 use Rattle.report_reader.proofs.Laws.{short-event}
 use borrow.Author.Needs.{needs}
-use Rattle.report_reader.proofs.judge_event.Statement.{statement}
-use Rattle.report_reader.proofs.judge_event.Tie as tie
+use Rattle.report_reader.proofs.validate_event.Statement.{statement}
+use Rattle.report_reader.proofs.validate_event.Tie as tie
 
 plain-requires : tie.Need-plain-requires
 plain-requires c κs = search needs
@@ -36,15 +36,15 @@ add-ty c = search needs
 shared-slice-read-ty : tie.Need-shared-slice-read-ty
 shared-slice-read-ty c = search needs
 
-judge-transition-requires : tie.Need-judge-transition-requires
-judge-transition-requires c κs = (c .before .before .before .before .if1 .left, omega (arith, c .before .before .before .before .before .before .pre))
+validate-transition-requires : tie.Need-validate-transition-requires
+validate-transition-requires c κs = (c .before .before .before .before .if1 .left, omega (arith, c .before .before .before .before .before .before .pre))
 
 plain-requires-2 : tie.Need-plain-requires-2
 plain-requires-2 c κs = search needs
 
 returns-3 : tie.Need-returns-3
 unfolding eventStep if_then_else_
-returns-3 c = rw (eq-eqb _ 0 (c .before .before .before .if2 .left), eq-eqb _ 0 (c .before .match .keys1)) (c .judge-transition .ensures)
+returns-3 c = rw (eq-eqb _ 0 (c .before .before .before .if2 .left), eq-eqb _ 0 (c .before .match .keys1)) (c .validate-transition .ensures)
 
 returns-4 : tie.Need-returns-4
 unfolding eventStep if_then_else_
@@ -52,8 +52,8 @@ returns-4 c =
     let a = c .before .before .before .before .before .before .before .args in
     rw (eq-eqb _ 0 (c .before .before .before .if2 .left), ne-eqb _ 0 (c .before .match .rest .1)) (c .plain2 .ensures (a .s .now) (a .at) (a .n) (c .before .before .before .before .before .before .before .pre .1))
 
-pub judge-event-spec : {M : Type 1} → statement M
-judge-event-spec =
+pub validate-event-spec : {M : Type 1} → statement M
+validate-event-spec =
     tie.close
     (tie.spec
     plain-requires
@@ -64,7 +64,7 @@ judge-event-spec =
     returns-2
     add-ty
     shared-slice-read-ty
-    judge-transition-requires
+    validate-transition-requires
     plain-requires-2
     returns-3
     returns-4)

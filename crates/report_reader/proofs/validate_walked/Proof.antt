@@ -1,11 +1,11 @@
--- `report_reader::judge_walked` meets its contract.
+-- `report_reader::validate_walked` meets its contract.
 -- Assumes nothing.
 use borrow.Author.Tests.{eq-eqb, ne-eqb}
 use Rattle.laws.specs.Choice.{if_then_else_}
 use Rattle.report_reader.specs.Reader.{walkedStep}
 use borrow.Author.Needs.{needs}
-use Rattle.report_reader.proofs.judge_walked.Statement.{statement}
-use Rattle.report_reader.proofs.judge_walked.Tie as tie
+use Rattle.report_reader.proofs.validate_walked.Statement.{statement}
+use Rattle.report_reader.proofs.validate_walked.Tie as tie
 
 refused-requires : tie.Need-refused-requires
 refused-requires c κs = search needs
@@ -21,5 +21,5 @@ returns-2 : tie.Need-returns-2
 unfolding walkedStep if_then_else_
 returns-2 c s at n e = rw (eq-eqb _ 0 (c .before .if1 .left)) (c .plain .ensures s at n e)
 
-pub judge-walked-spec : {M : Type 1} → statement M
-judge-walked-spec = tie.close (tie.spec refused-requires returns plain-requires returns-2)
+pub validate-walked-spec : {M : Type 1} → statement M
+validate-walked-spec = tie.close (tie.spec refused-requires returns plain-requires returns-2)

@@ -1,11 +1,11 @@
--- `report_reader::judge_transition` meets its contract: each return rewrites with the tests that led there.
+-- `report_reader::validate_transition` meets its contract: each return rewrites with the tests that led there.
 -- Assumes nothing.
 use borrow.Author.Tests.{eq-eqb, ne-eqb}
 use Rattle.laws.specs.Choice.{if_then_else_}
 use Rattle.report_reader.specs.Reader.{transitionStep}
 use borrow.Author.Needs.{needs}
-use Rattle.report_reader.proofs.judge_transition.Statement.{statement}
-use Rattle.report_reader.proofs.judge_transition.Tie as tie
+use Rattle.report_reader.proofs.validate_transition.Statement.{statement}
+use Rattle.report_reader.proofs.validate_transition.Tie as tie
 
 refused-requires : tie.Need-refused-requires
 refused-requires c κs = search needs
@@ -39,8 +39,8 @@ unfolding transitionStep if_then_else_
 returns-3 c =
     rw (ne-eqb _ 3 (c .before .before .before .before .before .before .pre .0), eq-eqb _ 33 (c .before .before .before .before .if1 .left), ← c .before .before .before .time-at .ensures, ← c .before .before .good-time .ensures, c .before .if2 .left) (c .logged .ensures (c .before .before .before .before .before .before .args .s .now))
 
-pub judge-transition-spec : {M : Type 1} → statement M
-judge-transition-spec =
+pub validate-transition-spec : {M : Type 1} → statement M
+validate-transition-spec =
     tie.close
     (tie.spec
     refused-requires

@@ -1,11 +1,11 @@
--- `report_reader::judge_own` meets its contract: each return rewrites with the tests that led there.
+-- `report_reader::validate_own` meets its contract: each return rewrites with the tests that led there.
 -- Assumes nothing.
 use borrow.Author.Tests.{lt-ltb, le-ltb}
 use Rattle.laws.specs.Choice.{if_then_else_}
 use Rattle.report_reader.specs.Reader.{ownReportStep}
 use borrow.Author.Needs.{needs}
-use Rattle.report_reader.proofs.judge_own.Statement.{statement}
-use Rattle.report_reader.proofs.judge_own.Tie as tie
+use Rattle.report_reader.proofs.validate_own.Statement.{statement}
+use Rattle.report_reader.proofs.validate_own.Tie as tie
 
 refused-requires : tie.Need-refused-requires
 refused-requires c κs = search needs
@@ -30,25 +30,25 @@ returns-2 c = rw (le-ltb _ 3 (c .before .before .before .if1 .left), lt-ltb 4 _ 
 enum-told : tie.Need-enum-told
 enum-told c = search needs
 
-judge-event-requires : tie.Need-judge-event-requires
-judge-event-requires c κs = search needs
+validate-event-requires : tie.Need-validate-event-requires
+validate-event-requires c κs = search needs
 
 enum-told-2 : tie.Need-enum-told-2
 enum-told-2 c = search needs
 
-judge-diagnostic-requires : tie.Need-judge-diagnostic-requires
-judge-diagnostic-requires c κs = search needs
+validate-diagnostic-requires : tie.Need-validate-diagnostic-requires
+validate-diagnostic-requires c κs = search needs
 
 returns-3 : tie.Need-returns-3
 unfolding ownReportStep if_then_else_
-returns-3 c = rw (le-ltb _ 3 (c .before .before .before .before .before .if1 .left), le-ltb 4 _ (c .before .before .before .if2 .left), c .before .enum-told .given .1) (c .judge-event .ensures)
+returns-3 c = rw (le-ltb _ 3 (c .before .before .before .before .before .if1 .left), le-ltb 4 _ (c .before .before .before .if2 .left), c .before .enum-told .given .1) (c .validate-event .ensures)
 
 returns-4 : tie.Need-returns-4
 unfolding ownReportStep if_then_else_
-returns-4 c = rw (le-ltb _ 3 (c .before .before .before .before .before .if1 .left), le-ltb 4 _ (c .before .before .before .if2 .left), c .before .enum-told2 .given .1) (c .judge-diagnostic .ensures (c .before .before .before .before .before .before .before .args .n) (c .before .before .before .before .before .before .before .pre .0))
+returns-4 c = rw (le-ltb _ 3 (c .before .before .before .before .before .if1 .left), le-ltb 4 _ (c .before .before .before .if2 .left), c .before .enum-told2 .given .1) (c .validate-diagnostic .ensures (c .before .before .before .before .before .before .before .args .n) (c .before .before .before .before .before .before .before .pre .0))
 
-pub judge-own-spec : {M : Type 1} → statement M
-judge-own-spec =
+pub validate-own-spec : {M : Type 1} → statement M
+validate-own-spec =
     tie.close
     (tie.spec
     refused-requires
@@ -58,8 +58,8 @@ judge-own-spec =
     refused-requires-2
     returns-2
     enum-told
-    judge-event-requires
+    validate-event-requires
     enum-told-2
-    judge-diagnostic-requires
+    validate-diagnostic-requires
     returns-3
     returns-4)
