@@ -5,12 +5,11 @@ use mathlib.Core.Path.{_≡_, refl, sym, ap, _∙_}
 use mathlib.Core.Bool.{Bool, true, false, _&&_}
 use mathlib.Core.List.{List, [], _∷_}
 use native.Mathlib.Numerals.{add-one}
-use native.Mathlib.Omega.{arith}
 use lib.Dec.{eqb}
-use lib.ListN.{length, getD, take, drop, drop-of-length-le}
+use lib.ListN.{length, getD, drop, drop-of-length-le}
 use lib.Seq.{drop-cons}
 use borrow.Author.Tests.{eq-eqb, ne-eqb, eqb-true}
-use Rattle.octets.specs.Addresses.{same, addressAt}
+use Rattle.octets.specs.Addresses.{same}
 
 -- ---- equality
 
@@ -52,16 +51,3 @@ module _ (xs ys : List ℕ) (i : ℕ) (hx : i < length xs) (hy : i < length ys) 
 pub same-all : (xs ys : List ℕ) (i : ℕ) → length xs ≤ i → length ys ≤ i → same (drop i xs) (drop i ys) ≡ true
 unfolding same
 same-all xs ys i hx hy = rw (drop-of-length-le xs {i = i} hx, drop-of-length-le ys {i = i} hy)
-
--- ---- an address that stands at a position whole
-pub address-part : (s : List ℕ) (at : ℕ) → at + 6 ≤ length s → addressAt s at ≡ take 6 (drop at s)
-unfolding addressAt
-address-part s at h =
-    let e₁ : at + 1 + 1 ≡ at + 2 = omega arith in
-    let e₂ : at + 2 + 1 ≡ at + 3 = omega arith in
-    let e₃ : at + 3 + 1 ≡ at + 4 = omega arith in
-    let e₄ : at + 4 + 1 ≡ at + 5 = omega arith in
-    rw (first at (omega arith), first (at + 1) (omega arith), e₁, first (at + 2) (omega arith), e₂, first (at + 3) (omega arith), e₃, first (at + 4) (omega arith), e₄, first (at + 5) (omega arith))
-  where
-    first : (k : ℕ) → k < length s → drop k s ≡ getD s k 0 ∷ drop (k + 1) s
-    first k p = rw (add-one) (drop-cons s k 0 p)

@@ -1,3 +1,4 @@
 pub mod FieldLaws
+pub mod PlaceLaws
 pub mod AddressLaws
 pub mod ElementLaws

@@ -6,7 +6,7 @@ use mathlib.Core.List.{List}
 use lib.Dec.{leb, ltb, eqb}
 use lib.ListN.{getD}
 use Rattle.laws.specs.Choice.{if_then_else_}
-use Rattle.octets.specs.Fields.{pairAt}
+use Rattle.octets.specs.Fields.{pairAt, octetsAt}
 
 -- "Each time field is in its range .. or all ones, which means unknown."
 unfoldable pub inRange : ℕ → ℕ → ℕ → ℕ → Bool
@@ -24,3 +24,7 @@ goodTime t =
     else if not (inRange 0 23 255 (getD t 4 0)) then false
     else if not (inRange 1 31 255 (getD t 5 0)) then false
     else inRange 1 12 255 (getD t 6 0)
+
+-- the nine octets at a position
+abbrev pub timeAt : List ℕ → ℕ → List ℕ
+timeAt s at = octetsAt s at 9

@@ -1,7 +1,7 @@
 // Addresses of six octets.
 ghost use mathlib.Core.Path.{_≡_};
 ghost use Rattle.octets.specs.Addresses.{same, isGroup, addressAt};
-use crate::fields::octet;
+use crate::fields::read_at;
 
 // Are two addresses equal?
 pub fn same_address(a: [u8; 6], b: [u8; 6]) -> bool
@@ -28,15 +28,7 @@ pub fn is_group(a: [u8; 6]) -> bool
 pub fn address_at(s: &[u8], at: usize) -> [u8; 6]
     ensures { λ r. ⌜ r ≡ addressAt (now (s .entry)) at ⌝ }
 {
-    if s.len() <= at {
-        return [0; 6];
-    }
-    [
-        octet(s, at),
-        octet(s, at + 1),
-        octet(s, at + 2),
-        octet(s, at + 3),
-        octet(s, at + 4),
-        octet(s, at + 5),
-    ]
+    let mut address = [0u8; 6];
+    read_at(s, at, &mut address);
+    address
 }

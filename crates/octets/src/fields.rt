@@ -1,8 +1,9 @@
-// Fields of one and two octets; those of two are least octet first.
+// Fields of one octet, of two, least octet first, and of more.
 ghost use mathlib.Core.Path.{_≡_};
-ghost use Prim.Native.Nat.{_<_};
-ghost use lib.ListN.{getD};
-ghost use Rattle.octets.specs.Fields.{pair as Fields·pair, low as Fields·low, high as Fields·high, pairAt};
+ghost use Prim.Native.Nat.{_≤_, _<_};
+ghost use lib.ListN.{length, getD};
+ghost use Rattle.octets.specs.Fields.{pair as Fields·pair, low as Fields·low, high as Fields·high, pairAt, octetsAt};
+use crate::counts::least;
 
 // The octet at a position, 0 past the end.
 pub fn octet(s: &[u8], at: usize) -> u8
@@ -46,4 +47,27 @@ pub fn pair_at(s: &[u8], at: usize) -> u16
         return 0;
     }
     pair(octet(s, at), octet(s, at + 1))
+}
+
+// The octets at a position one by one, 0 past the end.
+fn read_cut(s: &[u8], at: usize, out: &mut [u8])
+    requires { ⌜ at ≤ length (now s) ⌝ }
+    ensures { λ _. ⌜ now (out .exit) ≡ octetsAt (now (s .entry)) at (length (now (out .entry))) ⌝ }
+{
+    let mut i: usize = 0;
+    while i < out.len() {
+        out[i] = octet(s, at + i);
+        i += 1;
+    }
+}
+
+// The octets at a position, as many as an array takes, 0 past the end.
+pub fn read_at(s: &[u8], at: usize, out: &mut [u8])
+    ensures { λ _. ⌜ now (out .exit) ≡ octetsAt (now (s .entry)) at (length (now (out .entry))) ⌝ }
+{
+    let from = least(at, s.len());
+    if s.len() - from < out.len() {
+        return read_cut(s, from, out);
+    }
+    bytes::copy(&s[from..from + out.len()], out);
 }

@@ -1,7 +1,8 @@
-// The rule of the nine octets of time (cause 14).
+// Times of nine octets, and their rule (cause 14).
 ghost use mathlib.Core.Path.{_≡_};
-ghost use Rattle.octets.specs.Times.{inRange, goodTime};
+ghost use Rattle.octets.specs.Times.{inRange, goodTime, timeAt};
 use crate::fields::pair;
+use crate::fields::read_at;
 
 // Is a field in its range, or all ones: unknown?
 fn in_range(least: u16, most: u16, ones: u16, x: u16) -> bool
@@ -36,4 +37,13 @@ pub fn good_time(t: [u8; 9]) -> bool
         return false;
     }
     in_range(1, 12, 255, t[6] as u16)
+}
+
+// The time at a position, 0 past the end.
+pub fn time_at(s: &[u8], at: usize) -> [u8; 9]
+    ensures { λ r. ⌜ r ≡ timeAt (now (s .entry)) at ⌝ }
+{
+    let mut time = [0u8; 9];
+    read_at(s, at, &mut time);
+    time
 }

@@ -5,9 +5,10 @@ use mathlib.Core.Path.{_≡_, refl, ap, _∙_}
 use mathlib.Core.List.{List, [], _∷_, _++_, append-nil}
 use native.Mathlib.Omega.{arith}
 use native.Mathlib.Numerals.{add-one}
-use lib.ListN.{length, getD, drop, set, drop-of-length-le, List·getD-eq-default}
+use lib.ListN.{length, drop, set, drop-of-length-le}
 use Rattle.laws.proofs.Arrays.{fill-next}
 use Rattle.octets.specs.Addresses.{addressAt}
+use Rattle.octets.proofs.PlaceLaws.{octets-past}
 use Rattle.traces.specs.Records.{addressesAt}
 
 module _ (s : List ℕ) where
@@ -24,20 +25,12 @@ module _ (s : List ℕ) where
   addresses-length (suc n) at = ap suc (addresses-length n (at + 6))
 
   -- past the end every octet is 0, wherever
-  address-past : (a b : ℕ) → length s ≤ a → length s ≤ b → addressAt s a ≡ addressAt s b
-  unfolding addressAt
-  address-past a b ha hb =
-      rw (past a ha, past (a + 1) (omega arith), past (a + 2) (omega arith), past (a + 3) (omega arith), past (a + 4) (omega arith), past (a + 5) (omega arith), past b hb, past (b + 1) (omega arith), past (b + 2) (omega arith), past (b + 3) (omega arith), past (b + 4) (omega arith), past (b + 5) (omega arith))
-    where
-      past : (k : ℕ) → length s ≤ k → getD s k 0 ≡ 0
-      past k h = List·getD-eq-default s 0 {n = k} h
-
   pub addresses-past : (n a b : ℕ) → length s ≤ a → length s ≤ b → addressesAt s n a ≡ addressesAt s n b
   unfolding addressesAt
   addresses-past zero a b ha hb = refl
   addresses-past (suc n) a b ha hb =
       let t : addressesAt s n (a + 6) ≡ addressesAt s n (b + 6) = addresses-past n (a + 6) (b + 6) (omega arith) (omega arith) in
-      rw (address-past a b ha hb, t)
+      rw (octets-past s 6 a b ha hb, t)
 
   -- the loop that reads them: the first i are read
   module _ (blank list : List (List ℕ)) (i from : ℕ) (is : list ≡ addressesAt s i from ++ drop i blank) where
