@@ -10,7 +10,7 @@ ghost use Rattle.identities.specs.Identity.{rows, pastRow, stands as Ide
 
 // A row of the table: a subelement's ID, whether it must stand, and the least and the most octets of
 // its body.
-pub struct Row {
+struct Row {
     pub id: u8,
     pub must: bool,
     pub least: usize,
@@ -18,7 +18,7 @@ pub struct Row {
 }
 
 // A row's turn: is it fine, and the position behind it.
-pub struct Walk {
+struct Walk {
     pub fine: bool,
     pub at: usize,
 }

@@ -13,9 +13,9 @@ pub struct Milliseconds(pub u32);
 pub struct TimeUnits(pub u16);
 
 impl Milliseconds {
-    pub const SECOND: u32 = 1000;
+    const SECOND: u32 = 1000;
 
-    pub const MINUTE: u32 = 60000;
+    const MINUTE: u32 = 60000;
 
     // The age between this reading and an earlier one, also across the counter's rollover.
     pub fn since(self, earlier: Milliseconds) -> Milliseconds
@@ -46,11 +46,11 @@ impl Milliseconds {
 
 impl TimeUnits {
     // A millisecond is 125 / 128 TU.
-    pub const NUMERATOR: u64 = 125;
+    const NUMERATOR: u64 = 125;
 
-    pub const DENOMINATOR: u64 = 128;
+    const DENOMINATOR: u64 = 128;
 
-    pub const MOST: u64 = 65535;
+    const MOST: u64 = 65535;
 
     // The one conversion: rounded down, and MOST where it is more.
     pub fn from_milliseconds(age: Milliseconds) -> TimeUnits
