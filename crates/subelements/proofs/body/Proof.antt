@@ -23,10 +23,16 @@ body-octet-requires-5 c κs = search needs
 body-octet-requires-6 : tie.Need-body-octet-requires-6
 body-octet-requires-6 c κs = search needs
 
+body-octet-requires-7 : tie.Need-body-octet-requires-7
+body-octet-requires-7 c κs = search needs
+
+body-octet-requires-8 : tie.Need-body-octet-requires-8
+body-octet-requires-8 c κs = search needs
+
 returns : tie.Need-returns
 unfolding bodyAt
 returns c =
-    rw (c .before .before .before .before .before .body-octet .ensures, c .before .before .before .before .body-octet2 .ensures, c .before .before .before .body-octet3 .ensures, c .before .before .body-octet4 .ensures, c .before .body-octet5 .ensures, c .body-octet6 .ensures)
+    rw (c .before .before .before .before .before .before .before .body-octet .ensures, c .before .before .before .before .before .before .body-octet2 .ensures, c .before .before .before .before .before .body-octet3 .ensures, c .before .before .before .before .body-octet4 .ensures, c .before .before .before .body-octet5 .ensures, c .before .before .body-octet6 .ensures, c .before .body-octet7 .ensures, c .body-octet8 .ensures)
 
 pub body-spec : {M : Type 1} → statement M
 body-spec =
@@ -38,4 +44,6 @@ body-spec =
     body-octet-requires-4
     body-octet-requires-5
     body-octet-requires-6
+    body-octet-requires-7
+    body-octet-requires-8
     returns)
