@@ -1,44 +1,21 @@
 -- Laws of the walk over subelements: a turn of its loop, by the tests that lead through it.
 -- Assumes nothing.
-use Prim.Native.Nat.{ℕ, zero, suc, _+_, _-_, _≤_, _<_}
+use Prim.Native.Nat.{ℕ, _+_, _-_, _≤_, _<_}
 use mathlib.Core.Path.{_≡_, refl, sym, ap, ap₂, _∙_}
-use mathlib.Core.Bool.{Bool, true, false}
-use lib.Dec.{eqb, leb}
-use mathlib.Core.List.{List, []}
-use lib.ListN.{length, getD, set, length-set, List·getD-eq-default}
-use borrow.Author.Tests.{eq-eqb, ne-eqb, leb-true, leb-false}
+use mathlib.Core.Bool.{true, false}
+use mathlib.Core.List.{List}
+use lib.ListN.{length, getD, set, length-set}
+use borrow.Author.Tests.{eq-eqb, ne-eqb}
 use native.Mathlib.Omega.{arith}
 use Rattle.laws.specs.Choice.{if_then_else_}
-use Rattle.laws.proofs.Choice.{either}
 use Rattle.laws.proofs.Walk.{Rest, start, last, again, done, go-on, stop-refused, stop-end}
 use Rattle.octets.specs.Elements.{pieceEnd}
 use Rattle.octets.specs.Refusals.{noRefusal, badSubelement, repeatedSubelement}
 use Rattle.octets.proofs.ElementLaws.{Ends, piece-ends}
 use Rattle.subelements.specs.declared.Condition.{Condition}
 use Rattle.subelements.specs.declared.Subelements.{Subelements}
-use Rattle.subelements.specs.Subelements.{reserved, lengths, rowOf, lengthOf, bodyAt, pastFilter, walked, refusedWalk, past, wholeStep, subelementStep, moreSubelements, walk}
-
--- an ID that has a length stands in the table
-pub row-past : (ty id : ℕ) → 5 ≤ id → rowOf ty id ≡ reserved
-row-past zero id h = List·getD-eq-default (getD lengths 0 []) reserved h
-row-past (suc zero) id h = List·getD-eq-default (getD lengths 1 []) reserved h
-row-past (suc (suc zero)) id h = List·getD-eq-default (getD lengths 2 []) reserved h
-row-past (suc (suc (suc ty))) id h = refl
-
-pub length-past : (ty id first : ℕ) → 5 ≤ id → lengthOf ty id first ≡ 0
-unfolding lengthOf
-length-past ty id first h = rw (row-past ty id h) (either (λ (n : ℕ). n ≡ 0) (eqb first 254) 0 0 (λ _. refl) (λ _. refl))
-
-pub no-table : (id first : ℕ) → lengthOf 3 id first ≡ 0
-unfolding lengthOf
-no-table id first = either (λ (n : ℕ). n ≡ 0) (eqb first 254) 0 0 (λ _. refl) (λ _. refl)
-
-known-id : (ty id first : ℕ) → (lengthOf ty id first ≡ 0 → ⊥) → id < 5
-known-id ty id first h = go (leb 5 id) refl
-  where
-    go : (b : Bool) → leb 5 id ≡ b → id < 5
-    go true t = absurd (h (length-past ty id first (leb-true 5 id t)))
-    go false t = omega (arith, leb-false 5 id t)
+use Rattle.subelements.specs.Subelements.{lengthOf, bodyAt, pastFilter, walked, refusedWalk, past, wholeStep, subelementStep, moreSubelements, walk}
+use Rattle.subelements.proofs.Tables.{known-id}
 
 -- what holds before each turn: not refused, the position bounds the count, and what is left of the walk gives what the whole walk gives
 pub record Walking (s : List ℕ) (ty from end : ℕ) (w : Subelements) : Type 0 where

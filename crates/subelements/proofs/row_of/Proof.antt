@@ -1,18 +1,13 @@
 -- `subelements::row_of` meets its contract: past the table the list's default is the reserved row.
 -- Assumes nothing.
-use Prim.Native.Nat.{ℕ}
-use mathlib.Core.Path.{sym, ap}
-use mathlib.Core.List.{List, []}
-use lib.ListN.{getD, List·getD-eq-default}
+use mathlib.Core.Path.{sym}
 use borrow.Author.Needs.{needs}
-use Rattle.subelements.specs.declared.Length.{Length}
-use Rattle.subelements.specs.Subelements.{lengths, reserved}
-use Rattle.subelements.proofs.Laws.{row-past}
+use Rattle.subelements.proofs.Tables.{no-row, row-past}
 use Rattle.subelements.proofs.row_of.Statement.{statement}
 use Rattle.subelements.proofs.row_of.Tie as tie
 
 returns : tie.Need-returns
-returns c = sym (ap (λ (l : List Length). getD l (c .before .args .id) reserved) (List·getD-eq-default lengths [] (c .if1 .taken)))
+returns c = sym (no-row (c .before .args .ty) (c .before .args .id) (c .if1 .taken))
 
 returns-2 : tie.Need-returns-2
 returns-2 c = sym (row-past (c .before .before .args .ty) (c .before .before .args .id) (c .if2 .taken))

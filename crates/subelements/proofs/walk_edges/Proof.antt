@@ -7,7 +7,8 @@ use borrow.Author.Needs.{needs}
 use Rattle.octets.specs.Refusals.{noRefusal}
 use Rattle.subelements.specs.declared.Subelements.{Subelements}
 use Rattle.subelements.specs.Subelements.{noFilter}
-use Rattle.subelements.proofs.Laws.{Walking, walking-start, walking-end, moves, refused-edge, passed-over, no-table}
+use Rattle.subelements.proofs.Laws.{Walking, walking-start, walking-end, moves, refused-edge, passed-over}
+use Rattle.subelements.proofs.Tables.{no-length}
 use Rattle.subelements.proofs.walk_edges.Statement.{statement}
 use Rattle.subelements.proofs.walk_edges.Tie as tie
 
@@ -39,7 +40,7 @@ loop-less : tie.Need-loop-less Inv-loop μ-loop
 loop-less c = moves (c .before .before .before .loop .inv) (c .before .before .loop-test .taken) (c .before .piece-end .ensures) (c .if1 .left)
 
 loop-again : tie.Need-loop-again Inv-loop μ-loop
-loop-again c = passed-over (c .before .before .before .loop .inv) (c .before .before .loop-test .taken) (c .before .piece-end .ensures) (c .if1 .left) refl refl refl (no-table _ _)
+loop-again c = passed-over (c .before .before .before .loop .inv) (c .before .before .loop-test .taken) (c .before .piece-end .ensures) (c .if1 .left) refl refl refl (no-length _ _ _ refl)
 
 none-requires : tie.Need-none-requires Inv-loop μ-loop
 none-requires c κs = search needs
