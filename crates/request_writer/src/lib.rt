@@ -51,7 +51,16 @@ fn put_condition(buf: &mut [u8], ty: usize, id: usize, c: Condition) -> usize
     }
     let o = c.octets;
     let octets = [
-        id as u8, n as u8, o[0], o[1], o[2], o[3], o[4], o[5], o[6], o[7],
+        id as u8,
+        n as u8,
+        o[0],
+        o[1],
+        o[2],
+        o[3],
+        o[4],
+        o[5],
+        o[6],
+        o[7],
     ];
     bytes::copy(&octets[..2 + n], buf)
 }

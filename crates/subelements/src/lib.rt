@@ -35,19 +35,40 @@ pub struct Length {
     pub expanded: usize,
 }
 
-const RESERVED: Length = Length { plain: 0, expanded: 0 };
+const RESERVED: Length = Length {
+    plain: 0,
+    expanded: 0,
+};
 
-const ONE: Length = Length { plain: 1, expanded: 1 };
+const ONE: Length = Length {
+    plain: 1,
+    expanded: 1,
+};
 
-const TWO: Length = Length { plain: 2, expanded: 2 };
+const TWO: Length = Length {
+    plain: 2,
+    expanded: 2,
+};
 
-const THREE: Length = Length { plain: 3, expanded: 3 };
+const THREE: Length = Length {
+    plain: 3,
+    expanded: 3,
+};
 
-const FOUR: Length = Length { plain: 4, expanded: 4 };
+const FOUR: Length = Length {
+    plain: 4,
+    expanded: 4,
+};
 
-const SIX: Length = Length { plain: 6, expanded: 6 };
+const SIX: Length = Length {
+    plain: 6,
+    expanded: 6,
+};
 
-const METHOD: Length = Length { plain: 1, expanded: 8 };
+const METHOD: Length = Length {
+    plain: 1,
+    expanded: 8,
+};
 
 // The body lengths by event type and subelement ID.
 const LENGTHS: [[Length; 5]; TABLES] = [
@@ -73,7 +94,11 @@ pub fn length_of(ty: usize, id: usize, first: u8) -> usize
     ensures { λ r. ⌜ r ≡ lengthOf ty id first ⌝ }
 {
     let row = row_of(ty, id);
-    if first == 254 { row.expanded } else { row.plain }
+    if first == 254 {
+        row.expanded
+    } else {
+        row.plain
+    }
 }
 
 // Octet k of a body of n octets, 0 past its end.
