@@ -5,10 +5,10 @@ use mathlib.Core.Path.{_≡_, refl, sym, ap, _∙_}
 use mathlib.Core.Bool.{Bool, true, false}
 use mathlib.Core.List.{List, [], _∷_, _++_, append-assoc}
 use lib.ListN.{length, getD, take, drop, set, length-append, List·getD-append}
-use lib.Seq.{getD-take, getD-append-add, length-take-le}
-use lib.Dec.{ltb, eqb}
-use borrow.Author.Tests.{eq-eqb, ne-eqb, eqb-false, ltb-true}
-use native.Mathlib.Nat.{add-zero, add-assoc, zero-add}
+use lib.Seq.{getD-take, length-take-le}
+use lib.Dec.{eqb}
+use borrow.Author.Tests.{eq-eqb, ne-eqb, eqb-false}
+use native.Mathlib.Nat.{add-zero, add-assoc}
 use native.Mathlib.Omega.{arith}
 use Rattle.laws.specs.Choice.{if_then_else_}
 use Rattle.laws.specs.Buffers.{pieces}
@@ -21,7 +21,8 @@ use Rattle.octets.specs.Elements.{framed}
 use Rattle.octets.proofs.ElementLaws.{piece-stands}
 use Rattle.subelements.specs.declared.Condition.{Condition}
 use Rattle.subelements.specs.declared.Subelements.{Subelements}
-use Rattle.subelements.specs.Subelements.{tables, lengthOf, bodyOctet, bodyAt, absent, noFilter, pastFilter, past, wholeStep, subelementStep, moreSubelements}
+use Rattle.subelements.specs.Subelements.{tables, lengthOf, bodyAt, absent, noFilter, pastFilter, past, wholeStep, subelementStep, moreSubelements}
+use Rattle.subelements.proofs.Bodies.{body-stands}
 use Rattle.subelements.proofs.Tables.{no-row, no-length, length-small}
 use Rattle.laws.specs.Members.{All, also}
 use Rattle.request_writer.specs.Frames.{conditionLength, conditionOctets}
@@ -83,26 +84,6 @@ module _ (s : List ℕ) (ty end : ℕ) (w : Subelements) (id : ℕ) (b r : List 
         new,
       )
 
--- the body of a subelement, in eight places
-module _ (s : List ℕ) (at id m n : ℕ) (x r : List ℕ) (h : drop at s ≡ id ∷ m ∷ (take n x ++ r)) (enough : n ≤ length x) where
-  body-octet-at : (k : ℕ) → bodyOctet s (at + 2) n k ≡ bodyOctet x 0 n k
-  unfolding bodyOctet if_then_else_
-  body-octet-at k = go (ltb k n) refl
-    where
-      go : (t : Bool) → ltb k n ≡ t → (if t then getD s (at + 2 + k) 0 else 0) ≡ (if t then getD x (0 + k) 0 else 0)
-      go true q =
-          let lt : k < n = ltb-true k n q in
-          rw (add-assoc at 2 k, zero-add k)
-          (stands-at s at (id ∷ m ∷ take n x) r h (2 + k) 0
-          ∙ getD-append-add (id ∷ m ∷ []) (take n x ++ r) k 0
-          ∙ List·getD-append (take n x) r 0 k (omega (arith, length-take-le n x enough))
-          ∙ getD-take n x k 0 lt)
-      go false q = refl
-
-  body-back : bodyAt s (at + 2) n ≡ bodyAt x 0 n
-  unfolding bodyAt
-  body-back = rw (body-octet-at 0, body-octet-at 1, body-octet-at 2, body-octet-at 3, body-octet-at 4, body-octet-at 5, body-octet-at 6, body-octet-at 7)
-
 -- ---- the conditions
 
 module _ (s : List ℕ) (ty end : ℕ) (whole : Subelements) where
@@ -141,7 +122,7 @@ module _ (s : List ℕ) (ty end : ℕ) (whole : Subelements) where
           let p : at + 2 + length b ≡ at + length (framed id b) = omega arith in
           let tabled : lengthOf ty id (getD b 0 0) ≡ length b = rw (lb, getD-take m x 0 0 (omega arith)) (length-tabled ty id c some) in
           let blank : getD f id pastFilter .present ≡ false = ap (λ (y : Condition). y .present) (next-blank front noFilter pastFilter id e small ∙ blank-condition id small) in
-          let o : bodyAt s (at + 2) (length b) ≡ bodyAt x 0 m = ap (bodyAt s (at + 2)) lb ∙ body-back s at id (length b) m x r h (omega (arith, length-within ty id c)) in
+          let o : bodyAt s (at + 2) (length b) ≡ bodyAt x 0 m = ap (bodyAt s (at + 2)) lb ∙ body-stands s (at + 2) m x r (stands-behind s at (id ∷ length b ∷ []) (b ++ r) h (at + 2) refl) (omega (arith, length-within ty id c)) in
           let filled : set f id (record { present = true; octets = bodyAt s (at + 2) (length b) }) ≡ (front ++ (record { present = true; octets = bodyAt x 0 m } ∷ [])) ++ drop (suc id) noFilter
           = rw o (fill-next front noFilter pastFilter id e small _) in
           let stepped : subelementStep s ty end (atSubelements at n f) ≡ atSubelements (at + length (framed id b)) (n + 1) ((front ++ (record { present = true; octets = bodyAt x 0 m } ∷ [])) ++ drop (suc id) noFilter)
