@@ -1,6 +1,6 @@
 -- `firmware::elements::elements_of` meets its contract. The invariant is `FillingBack`.
 -- Assumes nothing.
-use mathlib.Core.Path.{_≡_, sym, _∙_}
+use mathlib.Core.Path.{_≡_, sym, ap, _∙_}
 use native.Mathlib.Omega.{arith}
 use lib.ListN.{length}
 use Rattle.requests.specs.Elements.{elementCapacity}
@@ -20,8 +20,13 @@ abbrev μ-loop : tie.MeasureT-loop
 least-requires : tie.Need-least-requires Inv-loop μ-loop
 least-requires c κs = search needs
 
+blank-elements-requires : tie.Need-blank-elements-requires Inv-loop μ-loop
+blank-elements-requires c κs = search needs
+
 loop-holds : tie.Need-loop-holds Inv-loop μ-loop
-loop-holds c = let eight : length (c .before .args .t1) ≡ elementCapacity = search (needs, length-mapped) in fill-begin elementFrom _ _ _ _ _ eight (search needs) (c .least .ensures)
+loop-holds c =
+    let eight : length (c .before .before .args .t1) ≡ elementCapacity = search (needs, length-mapped) in
+    fill-begin elementFrom _ _ _ _ _ eight (ap length (c .blank-elements .ensures)) (c .before .least .ensures)
 
 sub-i : tie.Need-sub-i Inv-loop μ-loop
 sub-i c = omega arith
@@ -45,12 +50,12 @@ loop-less : tie.Need-loop-less Inv-loop μ-loop
 loop-less c = omega arith
 
 loop-again : tie.Need-loop-again Inv-loop μ-loop
-loop-again c = fill-back (c ^3 .loop .inv) (c ^2 .loop-test .taken) pastElements (c .element-of .result) (c .element-of .ensures)
+loop-again c = fill-back (c .before .before .before .loop .inv) (c .before .before .loop-test .taken) pastElements (c .element-of .result) (c .element-of .ensures)
 
 returns : tie.Need-returns Inv-loop μ-loop
 returns c =
     let F = c .before .loop .inv in
-    let end = c .before .before .least .ensures in
+    let end = c .before .before .before .least .ensures in
     sym (take-within _ elementCapacity _ (F .places) _ end) ∙ fill-end F (c .loop-test .left) _ end
 
 pub elements-of-spec : {M : Type 1} → statement M
@@ -60,6 +65,7 @@ elements-of-spec =
     Inv-loop
     μ-loop
     least-requires
+    blank-elements-requires
     loop-holds
     sub-i
     mul-element-of
