@@ -21,7 +21,7 @@ use Rattle.model.specs.Diagnostics.{dropLate}
 
 pub data Case : Type 0 where
   -- departure, arrival, milliseconds, TUs
-  spanned : ℕ → ℕ → ℕ → ℕ → Case
+  crossing : ℕ → ℕ → ℕ → ℕ → Case
   -- milliseconds, TUs
   aged : ℕ → ℕ → Case
   -- a request frame, its refusal's number and place
@@ -33,7 +33,7 @@ pub data Case : Type 0 where
 
 unfoldable pub cases : List Case
 cases =
-    spanned 4294967290 10 16 15
+    crossing 4294967290 10 16 15
     ∷ aged 1 0
     ∷ aged 2 1
     ∷ aged 67107 65534
@@ -78,7 +78,7 @@ equal true b = b
 equal false b = not b
 
 unfoldable pub caseHolds : Case → Bool
-caseHolds (spanned departure arrival milliseconds tus) = eqb (age arrival departure) milliseconds && eqb (tusOf milliseconds) tus
+caseHolds (crossing departure arrival milliseconds tus) = eqb (age arrival departure) milliseconds && eqb (tusOf milliseconds) tus
 caseHolds (aged milliseconds tus) = eqb (tusOf milliseconds) tus
 caseHolds (refusedFrame o number place) = eqb (readRequest elementCapacity o .refusal .number) number && eqb (readRequest elementCapacity o .refusal .place) place
 caseHolds (timeout seconds accepted reading alive) =

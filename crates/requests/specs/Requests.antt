@@ -11,7 +11,7 @@ use Rattle.octets.specs.declared.numbers.Kind.the-variants.{Event, Diagnostic}
 use Rattle.octets.specs.Refusals.{refused, noRefusal, badFrameLength, badHeader, zeroDialogToken, elementPastEnd, shortElement, badElementToken, badSubelement, repeatedSubelement, tooManyElements, noElement}
 use Rattle.octets.specs.Numbers.{category, requestAction, shortestFrame, longestFrame}
 use Rattle.requests.specs.declared.Request.{Request}
-use Rattle.requests.specs.Elements.{blankElements, Elements, walkElements}
+use Rattle.requests.specs.Elements.{blankElements, ElementWalk, walkElements}
 
 -- the causes of the table that speak of a request frame
 abbrev pub requestCauses : List ℕ
@@ -28,7 +28,7 @@ lacksElement Event count = false
 lacksElement Diagnostic count = eqb count 0
 
 -- the walk's refusal, or 10, or the request
-unfoldable pub requestOf : Kind → ℕ → Elements → Request
+unfoldable pub requestOf : Kind → ℕ → ElementWalk → Request
 requestOf kind dialog w =
     if not (eqb (w .refusal .number) 0) then refusedRequest (w .refusal .number) (w .refusal .place)
     else if lacksElement kind (w .count) then refusedRequest noElement 0
