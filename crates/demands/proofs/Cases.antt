@@ -16,7 +16,8 @@ use Rattle.subelements.specs.Subelements.{wholeStep, subelementStep as Subeleme
 use Rattle.requests.specs.Elements.{subelementsOf, badToken, withElement, ownRequestStep, elementStep, walkElements}
 use Rattle.requests.specs.Internal.{subelementsStart}
 use Rattle.requests.specs.Requests.{requestOf, frameKind, headerCause, readRequest}
-use Rattle.events.specs.Log.{pushed, bodyOf, entryOf}
+use Rattle.events.specs.Transitions.{bodyOf, entryOf}
+use Rattle.events.specs.Log.{pushed}
 use Rattle.events.specs.Choice.{firstOf, nextPlace}
 use Rattle.events.specs.Conditions.{asked, transitionMeets, meetsAt, meets}
 use Rattle.identities.specs.Identity.{stands, passRow, goodFrom, goodIdentity}

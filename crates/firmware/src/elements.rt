@@ -5,6 +5,7 @@ use crate::RequestElement;
 use octets::least;
 use report_reader::Element;
 use requests::ELEMENT_CAPACITY;
+use requests::blank_elements;
 ghost use mathlib.Core.Path.{_≡_};
 ghost use mathlib.Core.List.{map};
 ghost use lib.ListN.{take};
@@ -61,17 +62,7 @@ pub fn elements_of(
     ensures { λ r. ⌜ take count r ≡ map elementFrom (take count es) ⌝ }
 {
     let end = least(count, ELEMENT_CAPACITY);
-    let mut elements = [requests::Element {
-        token: 0,
-        ty: 0,
-        timeout: 0,
-        subs: 0,
-        limit: 0,
-        filter: [subelements::Condition {
-            present: false,
-            octets: [0; 6],
-        }; 5],
-    }; ELEMENT_CAPACITY];
+    let mut elements = blank_elements();
     let mut i = end;
     while 0 < i {
         i -= 1;

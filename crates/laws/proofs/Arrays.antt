@@ -1,6 +1,6 @@
--- Laws of arrays: of structs, filled from the front, and mapped in place.
+-- Laws of arrays: of structs, filled from the front or from the back, and mapped in place.
 -- Assumes nothing.
-use Prim.Native.Nat.{ℕ, zero, suc, _+_, _≤_, _<_, min}
+use Prim.Native.Nat.{ℕ, zero, suc, _+_, _-_, _≤_, _<_, min}
 use mathlib.Core.Path.{_≡_, refl, sym, ap, _∙_}
 use mathlib.Core.Bool.{Bool, true, false}
 use mathlib.Core.List.{List, [], _∷_, _++_, map, map-append, append-assoc, append-nil}
@@ -117,20 +117,47 @@ module _ {A B : Type 0} (f : A → B) (l : List A) (blank xs : List B) where
   pub column-all : (n : ℕ) → length l ≡ n → length blank ≡ n → xs ≡ map f (take n l) ++ drop n blank → xs ≡ map f l
   column-all n p q e = e ∙ rw (take-all n l (omega arith), drop-of-length-le blank {i = n} (omega arith)) (append-nil (map f l))
 
--- one that is filled from the back: nothing is left behind the first n of n
-pub fill-none : {A : Type 0} (n : ℕ) (l : List A) → drop n (take n l) ≡ []
+-- ---- an array of m places that is filled from the back with what f makes of another's first end: the places from i on are filled
+pub record FillingBack {A B : Type 0} (f : A → B) (from : List A) (to : List B) (m end i : ℕ) : Type 0 where
+  pub begun : i ≤ end
+  pub few : end ≤ m
+  pub source : length from ≡ m
+  pub places : length to ≡ m
+  pub filled : drop i (take end to) ≡ map f (drop i (take end from))
+
+-- nothing is left behind the first n of n
+fill-none : {A : Type 0} (n : ℕ) (l : List A) → drop n (take n l) ≡ []
 fill-none n l = drop-of-length-le (take n l) {i = n} (omega (arith, length-take n l))
 
-pub fill-back : {A B : Type 0} (f : A → B) (from : List A) (to : List B) (end i : ℕ) (d : A) (y : B) → i < end → end ≤ length from → end ≤ length to
-    → drop (i + 1) (take end to) ≡ map f (drop (i + 1) (take end from)) → y ≡ f (getD from i d)
-    → drop i (take end (set to i y)) ≡ map f (drop i (take end from))
-fill-back f from to end i d y h k m e q =
-    rw (take-next (set to i y) y end i h (omega (arith, length-set to i y)), getD-set-same to i y y (omega arith), take-set-lt end to i y h, drop-set-lt (i + 1) (take end to) i y (omega arith), take-next from d end i h (omega arith), e, q)
+pub fill-begin : {A B : Type 0} (f : A → B) (from : List A) (to : List B) (m end n : ℕ) → length from ≡ m → length to ≡ m → end ≡ min n m → FillingBack f from to m end end
+fill-begin f from to m end n p q e = record {
+  begun = omega arith;
+  few = omega arith;
+  source = p;
+  places = q;
+  filled = fill-none end to ∙ sym (ap (map f) (fill-none end from));
+}
 
-pub mapped-within : {A B : Type 0} (f : A → B) (from : List A) (to : List B) (i m end n : ℕ) → length from ≡ m → end ≡ min n m → i ≡ end
-    → take i to ≡ map f (take i from) → take end to ≡ map f (take n from)
-mapped-within {A} {B} f from to i m end n e h q p =
-    ap (λ (k : ℕ). take k to) (sym q) ∙ p ∙ ap (λ (k : ℕ). map f (take k from)) q ∙ ap (map f) (take-within from m end e n h)
+module _ {A B : Type 0} {f : A → B} {from : List A} {to : List B} {m end i : ℕ} (F : FillingBack f from to m end i) where
+  pub fill-back : 0 < i → (d : A) (y : B) → y ≡ f (getD from (i - 1) d) → FillingBack f from (set to (i - 1) y) m end (i - 1)
+  fill-back h d y q =
+      let j : ℕ = i - 1 in
+      let next : i ≡ j + 1 = omega arith in
+      let l : j < end = omega (arith, F .begun) in
+      let k : j < length from = omega (arith, F .few, F .source) in
+      let s : j < length to = omega (arith, F .few, F .places) in
+      record {
+        begun = omega arith;
+        few = F .few;
+        source = F .source;
+        places = length-set to j y ∙ F .places;
+        filled = rw (take-next (set to j y) y end j l (omega (arith, length-set to j y)), getD-set-same to j y y s, take-set-lt end to j y l, drop-set-lt (j + 1) (take end to) j y (omega arith), take-next from d end j l k, rw next at (F .filled), q);
+      }
+
+  pub fill-end : i ≤ 0 → (n : ℕ) → end ≡ min n m → take end to ≡ map f (take n from)
+  fill-end h n e =
+      let z : i ≡ 0 = omega arith in
+      rw z at (F .filled) ∙ ap (map f) (take-within from m end (F .source) n e)
 
 -- ---- one place
 

@@ -8,6 +8,7 @@ use lib.ListN.{length, getD, drop, drop-of-length-le}
 use lib.Seq.{drop-cons}
 use native.Mathlib.Numerals.{add-one}
 use native.Mathlib.Omega.{arith}
+use Rattle.laws.specs.Members.{any}
 
 -- `some-of` tests a list by `one`, which may look at the elements behind the one that it tests
 module _ {A : Type 0} (some-of : List A → Bool) (one : A → List A → Bool) (nil : some-of [] ≡ false)
@@ -21,6 +22,23 @@ module _ {A : Type 0} (some-of : List A → Bool) (one : A → List A → Bool) 
 
   pub some-none : length l ≤ i → false ≡ some-of (drop i l)
   some-none h = rw (drop-of-length-le l {i = i} h, nil)
+
+-- the invariant of a loop that looks for an element which passes a test: those from i on have one as all of them have
+pub record Seeking {A : Type 0} (test : A → Bool) (l : List A) (i : ℕ) (has : Bool) : Type 0 where
+  pub left : any test (drop i l) ≡ has
+
+module _ {A : Type 0} {test : A → Bool} {l : List A} {i : ℕ} {has : Bool} (S : Seeking test l i has) where
+  pub found-here : (d : A) → i < length l → test (getD l i d) ≡ true → true ≡ has
+  unfolding any
+  found-here d h e = some-here (any test) (λ x xs. test x) refl (λ x xs. refl) l i d h e ∙ S .left
+
+  pub seek-later : (d : A) → i < length l → test (getD l i d) ≡ false → Seeking test l (i + 1) has
+  unfolding any
+  seek-later d h e = record { left = some-later (any test) (λ x xs. test x) refl (λ x xs. refl) l i d h e ∙ S .left }
+
+  pub found-none : length l ≤ i → false ≡ has
+  unfolding any
+  found-none h = some-none (any test) (λ x xs. test x) refl (λ x xs. refl) l i h ∙ S .left
 
 -- what some of the last elements have, some of all have
 module _ {A : Type 0} (some-of : List A → Bool) (one : A → List A → Bool) (cons : (x : A) (xs : List A) → some-of (x ∷ xs) ≡ (one x xs || some-of xs)) where

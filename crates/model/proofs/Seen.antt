@@ -19,7 +19,8 @@ use Rattle.events.specs.declared.Entry.{Entry}
 use Rattle.events.specs.declared.Transition.{Transition}
 use Rattle.model.specs.Model.{Capacities, Address, Requester, Station, Call, clock, logging, frame, report, roam, change, accepted, Result}
 use Rattle.requests.specs.Requests.{readRequest}
-use Rattle.events.specs.Log.{pushed, entryOf}
+use Rattle.events.specs.Transitions.{entryOf}
+use Rattle.events.specs.Log.{pushed}
 use Rattle.model.specs.Requesters.{badList, newRequester, find, put}
 use Rattle.model.specs.Stations.{refusedFor, tickRequester, tick, lowerRequester, logRequester, logEntry, logCall, Served, withRequester, serveFound, serveListed, takeKind, takeRequest, requestCall, frameCall, giveEvents, giveDiagnostics, ifOutstanding, octetsOf, giveKind, giveReport, reportCall, renameWith, rename, act, readingOf, step}
 use Rattle.model.specs.Runs.{sender, Reply, reply, toSender}

@@ -16,7 +16,8 @@ use Rattle.laws.proofs.Choice.{either, never}
 use Rattle.octets.specs.Times.{goodTime}
 use Rattle.events.specs.declared.Entry.{Entry}
 use Rattle.events.specs.declared.Transition.{Transition}
-use Rattle.events.specs.Log.{pushed, entryOf}
+use Rattle.events.specs.Transitions.{entryOf}
+use Rattle.events.specs.Log.{pushed}
 use Rattle.events.specs.Loggings.{Logging, entryFor}
 use Rattle.identities.specs.Identity.{goodIdentity}
 use Rattle.model.specs.Model.{Capacities, Address, Requester, Station, Call, clock, logging, frame, report, roam, change, Result}

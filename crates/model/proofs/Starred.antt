@@ -10,7 +10,7 @@ use Rattle.octets.specs.Elements.{pieceEnd}
 use Rattle.subelements.specs.Subelements.{wholeStep, subelementStep as Subelements·step, walk}
 use Rattle.requests.specs.Elements.{subelementsOf, badToken, withElement, ownRequestStep, elementStep, walkElements}
 use Rattle.requests.specs.Requests.{requestOf, frameKind, headerCause, readRequest}
-use Rattle.events.specs.Log.{bodyOf, entryOf}
+use Rattle.events.specs.Transitions.{bodyOf, entryOf}
 use Rattle.events.specs.Conditions.{asked, transitionMeets, meetsAt, meets}
 use Rattle.model.specs.Diagnostics.{isLate, onTime, unlessOver, dropLate}
 use Rattle.model.specs.Starred.{cases, outstanding, slowTransition, slow, leastTransition, equal, caseHolds, allHold, Starred}

@@ -14,7 +14,7 @@ use Rattle.requests.specs.Elements.{elementCapacity}
 use Rattle.requests.specs.Requests.{readRequest}
 use Rattle.events.specs.declared.Entry.{Entry}
 use Rattle.events.specs.declared.Transition.{Transition}
-use Rattle.events.specs.Log.{entryOf}
+use Rattle.events.specs.Transitions.{entryOf}
 use Rattle.events.specs.Conditions.{meets}
 use Rattle.model.specs.Model.{DiagnosticRequest}
 use Rattle.model.specs.Diagnostics.{dropLate}

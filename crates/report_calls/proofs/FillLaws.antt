@@ -1,7 +1,7 @@
 -- Laws of a buffer that is filled with a request's elements, for any kind of request. `Filling` is the invariant of every loop that does
 -- it: what is written, and what filling the rest from here gives, are what filling the whole gives.
 -- Assumes nothing.
-use Prim.Native.Nat.{ℕ, zero, suc, _+_, _-_, _≤_, _<_, min}
+use Prim.Native.Nat.{ℕ, zero, suc, _+_, _-_, _≤_, _<_}
 use mathlib.Core.Path.{_≡_, refl, sym, ap, _∙_}
 use mathlib.Core.Bool.{Bool, true, false}
 use mathlib.Core.List.{List, [], _∷_, _++_, append-assoc, append-nil}
@@ -16,11 +16,11 @@ use Rattle.laws.specs.Choice.{if_then_else_}
 use Rattle.laws.specs.Buffers.{onto, Written, wrote, putFront}
 use Rattle.laws.proofs.Buffers.{length-onto, lent-length, lent, put-front-fits, put-front-short}
 use Rattle.laws.proofs.Choice.{either}
-use Rattle.octets.specs.Numbers.{category, longestFrame}
+use Rattle.octets.specs.Numbers.{category}
 use Rattle.model.proofs.FillLaws.{fill-fits}
 use Rattle.model.specs.Fill.{Piece, nothingMore, before, fillWith, fill, nextFrame}
 use Rattle.model.specs.Stations.{room}
-use Rattle.report_calls.specs.Internal.{isNone, FilledAs, FramedAs}
+use Rattle.report_calls.specs.Internal.{isNone, FilledAs, Headed, FramedAs}
 
 module _ {R : Type 0} (next : R → Option (Piece R)) where
   pub record Filling (q : R) (s buf : List ℕ) (at : ℕ) (r : R) : Type 0 where
@@ -142,33 +142,33 @@ module _ {R : Type 0} {next : R → Option (Piece R)} {q : R} {s buf : List ℕ}
         turn zero g h = absurd (omega arith)
         turn (suc fuel) g h = let j : suc fuel - 1 ≡ fuel = omega arith in rw (e, le-leb (length (p .octets)) (length s - at) h, j)
 
--- ---- a report frame
+-- ---- a report frame: the part behind the header is lent on
 
-module _ {R : Type 0} (next : R → Option (Piece R)) (action dialog : ℕ) (q : R) (s b y : List ℕ) (end n : ℕ) (done : Bool) (rest : R)
-    (long : 260 ≤ length s) (ends : end ≡ min (length s) longestFrame) (header : b ≡ onto (category ∷ action ∷ dialog ∷ []) s)
-    (f : FilledAs next q (take (end - 3) (drop 3 b)) y n done rest) where
-  frame-room : length (take (end - 3) (drop 3 b)) ≡ room s - 3
-  frame-room =
-      lent-length (category ∷ action ∷ dialog ∷ []) [] s b [] 3 (end - 3) refl header (omega (arith, ends)) ∙ ap (λ (k : ℕ). k - 3) ends
+module _ {action dialog : ℕ} {s b : List ℕ} {end : ℕ} (h : Headed action dialog s b end) where
+  abbrev header : List ℕ
+  header = category ∷ action ∷ dialog ∷ []
 
-  behind-header : fill next (length (take (end - 3) (drop 3 b))) (length (take (end - 3) (drop 3 b))) q ≡ fill next (room s - 3) (room s - 3) q
-  behind-header = ap (λ (k : ℕ). fill next k k q) frame-room
+  pub header-within : end ≤ length b
+  header-within = omega (arith, h .ends, h .fits, ap length (h .octets) ∙ length-onto header s (omega (arith, h .ends, h .fits)))
 
-  within : length (fill next (room s - 3) (room s - 3) q .octets) ≤ room s - 3
-  within = fill-fits next (room s - 3) (room s - 3) q
+  module _ {R : Type 0} {next : R → Option (Piece R)} {q rest : R} {y : List ℕ} {n : ℕ} {done : Bool} (f : FilledAs next q (take (end - 3) (drop 3 b)) y n done rest) where
+    frame-room : length (take (end - 3) (drop 3 b)) ≡ room s - 3
+    frame-room = lent-length header [] s b [] 3 (end - 3) refl (h .octets) (omega (arith, h .ends, h .fits)) ∙ ap (λ (k : ℕ). k - 3) (h .ends)
 
-  pub framed-short : n ≤ 2301
-  framed-short = omega (arith, within, f .wrote ∙ ap (λ (p : Piece R). length (p .octets)) behind-header)
+    behind-header : fill next (length (take (end - 3) (drop 3 b))) (length (take (end - 3) (drop 3 b))) q ≡ fill next (room s - 3) (room s - 3) q
+    behind-header = ap (λ (k : ℕ). fill next k k q) frame-room
 
-  pub framed : FramedAs next action dialog q s (putMid 3 (end - 3) b y) n done rest
-  unfolding nextFrame
-  framed =
-      let w : n ≡ length (fill next (room s - 3) (room s - 3) q .octets) = f .wrote ∙ ap (λ (p : Piece R). length (p .octets)) behind-header in
-      record {
-        wrote = ap (λ (k : ℕ). 3 + k) w ∙ omega arith;
-        octets =
-            lent (category ∷ action ∷ dialog ∷ []) (fill next (room s - 3) (room s - 3) q .octets) s b y 3 (end - 3) refl header (omega (arith, ends)) (omega (arith, within, ends))
-            (f .octets ∙ ap (λ (p : Piece R). onto (p .octets) (take (end - 3) (drop 3 b))) behind-header);
-        after = f .after ∙ ap (λ (p : Piece R). p .rest) behind-header;
-        ended = f .ended;
-      }
+    pub framed : FramedAs next action dialog q s (putMid 3 (end - 3) b y) n done rest
+    unfolding nextFrame
+    framed =
+        let within = fill-fits next (room s - 3) (room s - 3) q in
+        let w : n ≡ length (fill next (room s - 3) (room s - 3) q .octets) = f .wrote ∙ ap (λ (p : Piece R). length (p .octets)) behind-header in
+        record {
+          short = omega (arith, within, w, h .ends, h .fits);
+          wrote = ap (λ (k : ℕ). 3 + k) w ∙ omega arith;
+          octets =
+              lent header (fill next (room s - 3) (room s - 3) q .octets) s b y 3 (end - 3) refl (h .octets) (omega (arith, h .ends, h .fits)) (omega (arith, within, h .ends))
+              (f .octets ∙ ap (λ (p : Piece R). onto (p .octets) (take (end - 3) (drop 3 b))) behind-header);
+          after = f .after ∙ ap (λ (p : Piece R). p .rest) behind-header;
+          ended = f .ended;
+        }

@@ -11,6 +11,7 @@ use borrow.Author.Tests.{eqb-true}
 use Rattle.laws.specs.Choice.{if_then_else_}
 use Rattle.laws.specs.Buffers.{onto}
 use Rattle.octets.specs.declared.numbers.Kind.the-variants.{Event, Diagnostic}
+use Rattle.octets.specs.Numbers.{reportAction}
 use Rattle.events.specs.declared.Entry.{Entry}
 use Rattle.model.specs.declared.Diagnostic.{Diagnostic as Element}
 use Rattle.model.specs.Model.{EventRequest, DiagnosticRequest, written}
@@ -52,11 +53,11 @@ module _ (r : Requester) (log : List Entry) (s : List ℕ) where
   no-events e = rw e
 
   pub gives-events : (s′ : List ℕ) (f : Filled) → r .events .outstanding ≡ true
-      → FramedAs (nextEvent log) 1 (r .events .dialog) (eventsAt (r .events) (progressOf (r .events))) s s′ (f .wrote) (f .done) (eventsAt (r .events) (f .after))
+      → FramedAs (nextEvent log) (reportAction Event) (r .events .dialog) (eventsAt (r .events) (progressOf (r .events))) s s′ (f .wrote) (f .done) (eventsAt (r .events) (f .after))
       → viewServed (gaveEvents r f) s′ ≡ giveKind none log s (viewRequester r) Event
   unfolding giveKind ifOutstanding giveEvents viewRequester viewEvents viewAnswer eventsAt if_then_else_
   gives-events s′ f e g =
-      let P = nextFrame (nextEvent log) 1 (r .events .dialog) (room s) (eventsAt (r .events) (progressOf (r .events))) in
+      let P = nextFrame (nextEvent log) (reportAction Event) (r .events .dialog) (room s) (eventsAt (r .events) (progressOf (r .events))) in
       let left : viewEvents (filledEvents (r .events) f) ≡ unlessDone (P .rest) (nextEvent log (P .rest)) =
       ended-events (eventsAt (r .events) (f .after)) (nextEvent log (eventsAt (r .events) (f .after))) (f .done) (g .ended)
       ∙ ap (λ (q : EventRequest). unlessDone q (nextEvent log q)) (g .after) in
@@ -70,12 +71,12 @@ module _ (r : Requester) (len : ℕ) (identity s : List ℕ) where
   no-diagnostics e = rw e
 
   pub gives-diagnostics : (s′ : List ℕ) (f : Answered) → r .diagnostics .outstanding ≡ true
-      → FramedAs (nextDiagnostic (take len identity)) 3 (r .diagnostics .dialog) (left (r .diagnostics .first) (r .diagnostics .count) (r .diagnostics .elements)) s s′ (f .wrote) (f .done) (left (f .first) (r .diagnostics .count) (r .diagnostics .elements))
+      → FramedAs (nextDiagnostic (take len identity)) (reportAction Diagnostic) (r .diagnostics .dialog) (left (r .diagnostics .first) (r .diagnostics .count) (r .diagnostics .elements)) s s′ (f .wrote) (f .done) (left (f .first) (r .diagnostics .count) (r .diagnostics .elements))
       → viewServed (gaveDiagnostics r f) s′ ≡ giveKind (viewIdentity len identity) [] s (viewRequester r) Diagnostic
   unfolding giveKind ifOutstanding giveDiagnostics viewRequester viewDiagnostics viewAnswer if_then_else_
   gives-diagnostics s′ f e g =
       let d = r .diagnostics in
-      let P = nextFrame (nextDiagnostic (take len identity)) 3 (d .dialog) (room s) (left (d .first) (d .count) (d .elements)) in
+      let P = nextFrame (nextDiagnostic (take len identity)) (reportAction Diagnostic) (d .dialog) (room s) (left (d .first) (d .count) (d .elements)) in
       let over : viewDiagnostics (answeredDiagnostics d f) ≡ unlessOver (d .dialog) (d .accepted .0) (P .rest) =
       ended-diagnostics (take len identity) (d .dialog) (d .accepted .0) (left (f .first) (d .count) (d .elements)) (f .done) (g .ended)
       ∙ ap (unlessOver (d .dialog) (d .accepted .0)) (g .after) in

@@ -16,19 +16,18 @@ use requesters::EventRequest;
 use requesters::Requester;
 use requesters::Served;
 ghost use mathlib.Core.Path.{_≡_};
-ghost use mathlib.Core.List.{[], _∷_};
+ghost use mathlib.Core.List.{[]};
 ghost use mathlib.Core.Option.{none};
-ghost use Prim.Native.Nat.{_≤_, min};
+ghost use Prim.Native.Nat.{_+_, _≤_};
 ghost use lib.ListN.{length, take};
 ghost use Rattle.octets.specs.declared.numbers.Kind.the-variants.{Event, Diagnostic};
-ghost use Rattle.laws.specs.Buffers.{onto};
-ghost use Rattle.octets.specs.Numbers.{category, longestFrame, reportAction};
+ghost use Rattle.octets.specs.Numbers.{longestFrame, reportAction};
 ghost use Rattle.events.specs.Log.{logged};
 ghost use Rattle.model.specs.Events.{nextEvent};
 ghost use Rattle.model.specs.Diagnostics.{nextDiagnostic};
 ghost use Rattle.model.specs.Stations.{giveKind, giveReport};
 ghost use Rattle.requesters.specs.Views.{left, eventsAt, progressOf, viewIdentity, viewRequester, viewServed};
-ghost use Rattle.report_calls.specs.Internal.{FramedAs, filledEvents, answeredDiagnostics, gaveEvents, gaveDiagnostics};
+ghost use Rattle.report_calls.specs.Internal.{Headed, FramedAs, filledEvents, answeredDiagnostics, gaveEvents, gaveDiagnostics};
 
 // An event request after a buffer was filled from it.
 fn after_events(r: EventRequest, f: Filled) -> EventRequest
@@ -66,7 +65,7 @@ fn after_diagnostics(r: DiagnosticRequest, f: Answered) -> DiagnosticRequest
 // The header at the front of a buffer; where the room for elements behind it ends.
 fn put_header(buf: &mut [u8], kind: Kind, dialog: u8) -> usize
     requires { ⌜ 260 ≤ length (now buf) ⌝ }
-    ensures { λ r. ⌜ (r ≡ min (length (now (buf .entry))) longestFrame) × (now (buf .exit) ≡ onto (category ∷ reportAction kind ∷ dialog ∷ []) (now (buf .entry))) ⌝ }
+    ensures { λ r. ⌜ Headed (reportAction kind) dialog (now (buf .entry)) (now (buf .exit)) r ⌝ }
 {
     let header = [numbers::CATEGORY, kind.report_action(), dialog];
     put(buf, 0, &header);
@@ -76,8 +75,7 @@ fn put_header(buf: &mut [u8], kind: Kind, dialog: u8) -> usize
 // An Event Report frame.
 fn frame_events(log: Log, r: EventRequest, buf: &mut [u8]) -> Filled
     requires { ⌜ 260 ≤ length (now buf) ⌝ }
-    ensures { λ f. ⌜ f .wrote ≤ 2301 ⌝ }
-    ensures { λ f. ⌜ FramedAs (nextEvent (logged log)) 1 (r .dialog) (eventsAt r (progressOf r)) (now (buf .entry)) (now (buf .exit)) (f .wrote) (f .done) (eventsAt r (f .after)) ⌝ }
+    ensures { λ f. ⌜ FramedAs (nextEvent (logged log)) (reportAction Event) (r .dialog) (eventsAt r (progressOf r)) (now (buf .entry)) (now (buf .exit)) (f .wrote) (f .done) (eventsAt r (f .after)) ⌝ }
 {
     let end = put_header(buf, Kind::Event, r.dialog);
     fill_events(log, r, &mut buf[3..end])
@@ -91,8 +89,7 @@ fn frame_diagnostics(
     buf: &mut [u8],
 ) -> Answered
     requires { ⌜ 260 ≤ length (now buf) ⌝ }
-    ensures { λ f. ⌜ f .wrote ≤ 2301 ⌝ }
-    ensures { λ f. ⌜ FramedAs (nextDiagnostic (take len (now (identity .entry)))) 3 (r .dialog) (left (r .first) (r .count) (r .elements)) (now (buf .entry)) (now (buf .exit)) (f .wrote) (f .done) (left (f .first) (r .count) (r .elements)) ⌝ }
+    ensures { λ f. ⌜ FramedAs (nextDiagnostic (take len (now (identity .entry)))) (reportAction Diagnostic) (r .dialog) (left (r .first) (r .count) (r .elements)) (now (buf .entry)) (now (buf .exit)) (f .wrote) (f .done) (left (f .first) (r .count) (r .elements)) ⌝ }
 {
     let end = put_header(buf, Kind::Diagnostic, r.dialog);
     fill_diagnostics(r, identity, len, &mut buf[3..end])
@@ -106,7 +103,7 @@ fn served(requester: Requester, answer: Answer) -> Served
 
 // A requester whose event request gave a frame.
 fn gave_events(r: Requester, f: Filled) -> Served
-    requires { ⌜ f .wrote ≤ 2301 ⌝ }
+    requires { ⌜ 3 + f .wrote ≤ longestFrame ⌝ }
     ensures { λ n. ⌜ n ≡ gaveEvents r f ⌝ }
 {
     let address = r.address;
@@ -124,7 +121,7 @@ fn gave_events(r: Requester, f: Filled) -> Served
 
 // A requester whose diagnostic request gave a frame.
 fn gave_diagnostics(r: Requester, f: Answered) -> Served
-    requires { ⌜ f .wrote ≤ 2301 ⌝ }
+    requires { ⌜ 3 + f .wrote ≤ longestFrame ⌝ }
     ensures { λ n. ⌜ n ≡ gaveDiagnostics r f ⌝ }
 {
     let address = r.address;

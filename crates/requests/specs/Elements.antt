@@ -2,8 +2,8 @@
 -- Assumes nothing.
 use Prim.Native.Nat.{ℕ, _+_}
 use mathlib.Core.Bool.{Bool, true, false, not, _&&_}
-use mathlib.Core.List.{List, [], _∷_}
-use lib.ListN.{length, getD, set, take}
+use mathlib.Core.List.{List, []}
+use lib.ListN.{length, getD, set, take, replicate}
 use lib.Dec.{ltb, leb, eqb}
 use Rattle.laws.specs.Members.{any}
 use Rattle.laws.specs.Choice.{if_then_else_}
@@ -60,8 +60,7 @@ abbrev pub blankElement : Element
 blankElement = record { token = 0; ty = 0; limit = 0; subs = 0; timeout = 0; filter = noFilter }
 
 abbrev pub blankElements : List Element
-blankElements =
-    blankElement ∷ blankElement ∷ blankElement ∷ blankElement ∷ blankElement ∷ blankElement ∷ blankElement ∷ blankElement ∷ []
+blankElements = replicate elementCapacity blankElement
 
 -- what stands past the elements' end: the default that the logic reads there
 abbrev pub pastElements : Element

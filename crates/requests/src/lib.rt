@@ -14,7 +14,7 @@ use subelements::walk_request;
 ghost use mathlib.Core.Path.{_≡_};
 ghost use Prim.Native.Nat.{_+_, _≤_, _<_};
 ghost use lib.ListN.{length, getD, take};
-ghost use Rattle.requests.specs.Elements.{elementCapacity, leastBody, limitAt, timeoutAt, subelementsOf, elementOf, blankElements, hasToken, zeroToken, badToken, walkElements};
+ghost use Rattle.requests.specs.Elements.{elementCapacity, leastBody, limitAt, timeoutAt, subelementsOf, elementOf, blankElement, blankElements, hasToken, zeroToken, badToken, walkElements};
 ghost use Rattle.requests.specs.Internal.{subelementsStart};
 ghost use Rattle.requests.specs.Requests.{refusedRequest, lacksElement, requestOf, frameKind, headerCause, readRequest};
 
@@ -158,10 +158,10 @@ pub fn bad_token(kind: Kind, es: [Element; ELEMENT_CAPACITY], n: usize, token: u
 }
 
 // What stands where a request has no element.
-fn blank_elements() -> [Element; ELEMENT_CAPACITY]
-    ensures { λ r. ⌜ r ≡ blankElements ⌝ }
+pub fn blank_element() -> Element
+    ensures { λ r. ⌜ r ≡ blankElement ⌝ }
 {
-    [Element {
+    Element {
         token: 0,
         ty: 0,
         limit: 0,
@@ -171,7 +171,13 @@ fn blank_elements() -> [Element; ELEMENT_CAPACITY]
             present: false,
             octets: [0; 6],
         }; 5],
-    }; ELEMENT_CAPACITY]
+    }
+}
+
+pub fn blank_elements() -> [Element; ELEMENT_CAPACITY]
+    ensures { λ r. ⌜ r ≡ blankElements ⌝ }
+{
+    [blank_element(); ELEMENT_CAPACITY]
 }
 
 fn refused(number: u8, place: usize) -> Request

@@ -3,7 +3,7 @@
 -- Assumes nothing.
 use Prim.Native.Nat.{ℕ, zero, suc, _+_, _%_}
 use mathlib.Core.Bool.{Bool, false, not}
-use mathlib.Core.List.{List, [], _∷_}
+use mathlib.Core.List.{List}
 use lib.ListN.{length, getD, set}
 use lib.Dec.{eqb, ltb}
 use Rattle.laws.specs.Choice.{if_then_else_}
@@ -13,17 +13,15 @@ use Rattle.octets.specs.Fields.{pairAt}
 use Rattle.octets.specs.Elements.{pieceEnd}
 use Rattle.subelements.specs.declared.Condition.{Condition}
 use Rattle.subelements.specs.declared.Subelements.{Subelements}
-use Rattle.subelements.specs.Subelements.{noFilter, walk}
+use Rattle.subelements.specs.Subelements.{walk}
 use Rattle.requests.specs.declared.Element.{Element}
+use Rattle.requests.specs.Elements.{blankElement, blankElements}
 use Rattle.traces.specs.declared.elements.Recorded.{Recorded}
 use Rattle.traces.specs.declared.elements.Elements.{Elements}
 use Rattle.traces.specs.Places.{placeBehindRecord}
 
-abbrev pub blankTraced : Element
-blankTraced = record { token = 0; ty = 0; limit = 0; subs = 0; timeout = 0; filter = noFilter }
-
 abbrev pub refusedElement : Recorded
-refusedElement = record { end = 0; element = blankTraced }
+refusedElement = record { end = 0; element = blankElement }
 
 -- a condition: its ID is not below the least one, and is one of document 01's
 unfoldable pub conditionEnd : List ℕ → ℕ → ℕ → ℕ
@@ -89,11 +87,7 @@ moreTraced s kind zero i w = w
 moreTraced s kind (suc k) i w = moreTraced s kind k (i + 1) (withTraced w i (tracedElementAt s kind (w .end)))
 
 abbrev pub startedTrace : ℕ → Elements
-startedTrace from =
-    record {
-      end = from;
-      elements = blankTraced ∷ blankTraced ∷ blankTraced ∷ blankTraced ∷ blankTraced ∷ blankTraced ∷ blankTraced ∷ blankTraced ∷ [];
-    }
+startedTrace from = record { end = from; elements = blankElements }
 
 abbrev pub elementsAt : List ℕ → Kind → ℕ → ℕ → Elements
 elementsAt s kind count from = moreTraced s kind count 0 (startedTrace from)

@@ -7,11 +7,12 @@ use octets::piece_end;
 use octets::size;
 use requests::ELEMENT_CAPACITY;
 use requests::Element;
-use subelements::Condition;
+use requests::blank_element;
+use requests::blank_elements;
 use subelements::walk_request;
 ghost use mathlib.Core.Path.{_≡_};
 ghost use lib.ListN.{set};
-ghost use Rattle.traces.specs.Elements.{blankTraced, refusedElement, conditionEnd, conditionsEnd, badValue, limitOf, timeoutOf, tracedElementAt, withTraced, elementsAt};
+ghost use Rattle.traces.specs.Elements.{refusedElement, conditionEnd, conditionsEnd, badValue, limitOf, timeoutOf, tracedElementAt, withTraced, elementsAt};
 
 // One element, and where it ends; 0: refused.
 pub struct Recorded {
@@ -25,28 +26,12 @@ pub struct Elements {
     pub elements: [Element; ELEMENT_CAPACITY],
 }
 
-fn no_element() -> Element
-    ensures { λ r. ⌜ r ≡ blankTraced ⌝ }
-{
-    Element {
-        token: 0,
-        ty: 0,
-        limit: 0,
-        subs: 0,
-        timeout: 0,
-        filter: [Condition {
-            present: false,
-            octets: [0; 6],
-        }; 5],
-    }
-}
-
 fn refused() -> Recorded
     ensures { λ r. ⌜ r ≡ refusedElement ⌝ }
 {
     Recorded {
         end: 0,
-        element: no_element(),
+        element: blank_element(),
     }
 }
 
@@ -182,7 +167,7 @@ pub fn elements_at(s: &[u8], kind: Kind, count: u8, from: usize) -> Elements
 {
     let mut w = Elements {
         end: from,
-        elements: [no_element(); ELEMENT_CAPACITY],
+        elements: blank_elements(),
     };
     let mut i: u8 = 0;
     while i < count {

@@ -1,12 +1,10 @@
--- `firmware::elements::elements_of` meets its contract. The invariant: the places from i on are those of the request.
+-- `firmware::elements::elements_of` meets its contract. The invariant is `FillingBack`.
 -- Assumes nothing.
-use Prim.Native.Nat.{_+_, _≤_, _-_}
-use mathlib.Core.Path.{_≡_, refl, sym, ap, _∙_}
-use mathlib.Core.List.{map}
+use mathlib.Core.Path.{_≡_, sym, ap, _∙_}
 use native.Mathlib.Omega.{arith}
-use lib.ListN.{length, take, drop, length-set}
+use lib.ListN.{length}
 use Rattle.requests.specs.Elements.{elementCapacity}
-use Rattle.laws.proofs.Arrays.{length-mapped, take-within, fill-none, fill-back, mapped-within}
+use Rattle.laws.proofs.Arrays.{length-mapped, take-within, FillingBack, fill-begin, fill-back, fill-end}
 use Rattle.firmware.specs.Numbers.{elementFrom}
 use Rattle.firmware.proofs.Laws.{pastElements}
 use borrow.Author.Needs.{needs}
@@ -14,8 +12,7 @@ use Rattle.firmware.proofs.elements.elements_of.Statement.{statement}
 use Rattle.firmware.proofs.elements.elements_of.Tie as tie
 
 abbrev Inv-loop : tie.InvT-loop
-Inv-loop count es end elements₀ i₀ elements i =
-    (i ≤ end) × (end ≤ elementCapacity) × (length es ≡ elementCapacity) × (length elements ≡ elementCapacity) × (drop i (take end elements) ≡ map elementFrom (drop i (take end es)))
+Inv-loop count es end elements₀ i₀ elements i = FillingBack elementFrom es elements elementCapacity end i
 
 abbrev μ-loop : tie.MeasureT-loop
 μ-loop count es end elements₀ i₀ elements i = i
@@ -23,12 +20,13 @@ abbrev μ-loop : tie.MeasureT-loop
 least-requires : tie.Need-least-requires Inv-loop μ-loop
 least-requires c κs = search needs
 
+blank-elements-requires : tie.Need-blank-elements-requires Inv-loop μ-loop
+blank-elements-requires c κs = search needs
+
 loop-holds : tie.Need-loop-holds Inv-loop μ-loop
 loop-holds c =
-    let es = c .before .args .t1 in
-    let end = c .least .result in
-    let eight : length es ≡ elementCapacity = search (needs, length-mapped) in
-    (omega arith, omega (arith, c .least .ensures), eight, search needs, fill-none end _ ∙ sym (ap (map elementFrom) (fill-none end es)))
+    let eight : length (c .before .before .args .t1) ≡ elementCapacity = search (needs, length-mapped) in
+    fill-begin elementFrom _ _ _ _ _ eight (ap length (c .blank-elements .ensures)) (c .before .least .ensures)
 
 sub-i : tie.Need-sub-i Inv-loop μ-loop
 sub-i c = omega arith
@@ -52,23 +50,13 @@ loop-less : tie.Need-loop-less Inv-loop μ-loop
 loop-less c = omega arith
 
 loop-again : tie.Need-loop-again Inv-loop μ-loop
-loop-again c =
-    let l = c .before .before .before .loop in
-    let es = c .before .before .before .before .before .args .t1 in
-    let end = c .before .before .before .before .least .result in
-    let j = l .i - 1 in
-    let next : l .i ≡ j + 1 = omega (arith, c .before .before .loop-test .taken) in
-    (omega arith, l .inv .1, l .inv .2, length-set (l .elements) j _ ∙ l .inv .3, fill-back elementFrom es (l .elements) end j pastElements (c .element-of .result) (omega arith) (omega arith) (omega arith) (rw next at (l .inv .4)) (c .element-of .ensures))
+loop-again c = fill-back (c .before .before .before .loop .inv) (c .before .before .loop-test .taken) pastElements (c .element-of .result) (c .element-of .ensures)
 
 returns : tie.Need-returns Inv-loop μ-loop
 returns c =
-    let l = c .before .loop in
-    let a = c .before .before .before .args in
-    let least = c .before .before .least in
-    let end = least .result in
-    let none : l .i ≡ 0 = omega arith in
-    sym (take-within (l .elements) 8 end (l .inv .3) (a .count) (least .ensures))
-    ∙ mapped-within elementFrom (a .t1) (l .elements) end 8 end (a .count) (l .inv .2) (least .ensures) refl (rw none at (l .inv .4))
+    let F = c .before .loop .inv in
+    let end = c .before .before .before .least .ensures in
+    sym (take-within _ elementCapacity _ (F .places) _ end) ∙ fill-end F (c .loop-test .left) _ end
 
 pub elements-of-spec : {M : Type 1} → statement M
 elements-of-spec =
@@ -77,6 +65,7 @@ elements-of-spec =
     Inv-loop
     μ-loop
     least-requires
+    blank-elements-requires
     loop-holds
     sub-i
     mul-element-of

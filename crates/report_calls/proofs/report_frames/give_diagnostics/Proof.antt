@@ -24,7 +24,7 @@ same-length c = search needs
 
 returns-2 : tie.Need-returns-2
 returns-2 c =
-    rw (c .gave-diagnostics .ensures) (gives-diagnostics (c .before .before .before .before .before .before .before .before .before .args .r) (c .before .before .before .before .before .before .before .before .before .args .len) (c .before .before .before .before .before .before .before .before .before .args .identity .now) (c .before .before .before .before .before .before .before .before .before .args .buf .now) _ (c .before .before .before .frame-diagnostics .result) (not-false _ (c .before .before .before .before .before .if1 .left)) (c .before .before .before .frame-diagnostics .ensures .1))
+    rw (c .gave-diagnostics .ensures) (gives-diagnostics (c .before .before .before .before .before .before .before .before .before .args .r) (c .before .before .before .before .before .before .before .before .before .args .len) (c .before .before .before .before .before .before .before .before .before .args .identity .now) (c .before .before .before .before .before .before .before .before .before .args .buf .now) _ (c .before .before .before .frame-diagnostics .result) (not-false _ (c .before .before .before .before .before .if1 .left)) (c .before .before .before .frame-diagnostics .ensures))
 
 pub give-diagnostics-spec : {M : Type 1} → statement M
 give-diagnostics-spec =

@@ -25,7 +25,7 @@ same-length c = search needs
 
 returns-2 : tie.Need-returns-2
 returns-2 c =
-    rw (c .gave-events .ensures) (gives-events (c .before .before .before .before .before .before .before .before .before .args .r) (logged (c .before .before .before .before .before .before .before .before .before .args .log)) (c .before .before .before .before .before .before .before .before .before .args .buf .now) _ (c .before .before .before .frame-events .result) (not-false _ (c .before .before .before .before .before .if1 .left)) (c .before .before .before .frame-events .ensures .1))
+    rw (c .gave-events .ensures) (gives-events (c .before .before .before .before .before .before .before .before .before .args .r) (logged (c .before .before .before .before .before .before .before .before .before .args .log)) (c .before .before .before .before .before .before .before .before .before .args .buf .now) _ (c .before .before .before .frame-events .result) (not-false _ (c .before .before .before .before .before .if1 .left)) (c .before .before .before .frame-events .ensures))
 
 pub give-events-spec : {M : Type 1} → statement M
 give-events-spec =

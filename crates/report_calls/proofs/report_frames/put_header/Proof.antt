@@ -1,13 +1,14 @@
 -- `report_calls::report_frames::put_header` meets its contract.
 -- Assumes nothing.
 use Prim.Native.Nat.{ℕ, min}
-use mathlib.Core.Path.{ap, _∙_}
+use mathlib.Core.Path.{_≡_, ap, _∙_}
 use mathlib.Core.List.{[], _∷_}
 use native.Mathlib.Omega.{arith}
 use lib.ListN.{length}
 use Rattle.laws.specs.Buffers.{Written}
 use Rattle.laws.proofs.Buffers.{put-at-fits, length-onto}
 use Rattle.octets.specs.Numbers.{category, longestFrame, reportAction}
+use Rattle.model.specs.Stations.{room}
 use borrow.Author.Needs.{needs}
 use Rattle.report_calls.proofs.report_frames.put_header.Statement.{statement}
 use Rattle.report_calls.proofs.report_frames.put_header.Tie as tie
@@ -29,11 +30,12 @@ same-length c = search needs
 
 returns : tie.Need-returns
 returns c =
-    let a = c .before .before .before .before .before .before .before .before .args in
-    let s = a .buf .now in
-    let header = category ∷ reportAction (a .kind) ∷ a .dialog ∷ [] in
-    let put = ap (λ (w : Written). w .octets) (rw (c .before .before .before .before .before .before .report-action .ensures) at (c .before .before .before .put .ensures) ∙ put-at-fits header 0 s (omega (arith, c .before .before .before .before .before .before .before .before .pre))) in
-    (c .least .ensures ∙ ap (λ (k : ℕ). min k longestFrame) (ap length put ∙ length-onto header s (omega (arith, c .before .before .before .before .before .before .before .before .pre))), put)
+    let start = c .before .before .before .before .before .before .before .before in
+    let s = start .args .buf .now in
+    let header = category ∷ reportAction (start .args .kind) ∷ start .args .dialog ∷ [] in
+    let put = ap (λ (w : Written). w .octets) (rw (c .before .before .before .before .before .before .report-action .ensures) at (c .before .before .before .put .ensures) ∙ put-at-fits header 0 s (omega (arith, start .pre))) in
+    let ends : c .least .result ≡ room s = c .least .ensures ∙ ap (λ (k : ℕ). min k longestFrame) (ap length put ∙ length-onto header s (omega (arith, start .pre))) in
+    record { fits = omega (arith, ends, start .pre); ends = ends; octets = put }
 
 pub put-header-spec : {M : Type 1} → statement M
 put-header-spec =

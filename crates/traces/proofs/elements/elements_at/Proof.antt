@@ -15,14 +15,14 @@ Inv-loop s kind count from w₀ i₀ w i = (i ≤ count) × (elementsAt s kind c
 abbrev μ-loop : tie.MeasureT-loop
 μ-loop s kind count from w₀ i₀ w i = count - i
 
-no-element-requires : tie.Need-no-element-requires Inv-loop μ-loop
-no-element-requires c κs = search needs
+blank-elements-requires : tie.Need-blank-elements-requires Inv-loop μ-loop
+blank-elements-requires c κs = search needs
 
 loop-holds : tie.Need-loop-holds Inv-loop μ-loop
 loop-holds c =
     let a = c .before .before .args in
     let e : a .count ≡ a .count - 0 = omega arith in
-    (omega arith, rw (c .no-element .ensures) (ap (λ (n : ℕ). moreTraced (a .s .now) (a .kind) n 0 (startedTrace (a .from))) e))
+    (omega arith, rw (c .blank-elements .ensures) (ap (λ (n : ℕ). moreTraced (a .s .now) (a .kind) n 0 (startedTrace (a .from))) e))
 
 element-at-requires : tie.Need-element-at-requires Inv-loop μ-loop
 element-at-requires c κs = search needs
@@ -52,7 +52,7 @@ elements-at-spec =
     (tie.spec
     Inv-loop
     μ-loop
-    no-element-requires
+    blank-elements-requires
     loop-holds
     element-at-requires
     with-element-requires

@@ -4,11 +4,11 @@ use borrow.Author.Needs.{needs}
 use Rattle.traces.proofs.elements.refused.Statement.{statement}
 use Rattle.traces.proofs.elements.refused.Tie as tie
 
-no-element-requires : tie.Need-no-element-requires
-no-element-requires c κs = search needs
+blank-element-requires : tie.Need-blank-element-requires
+blank-element-requires c κs = search needs
 
 returns : tie.Need-returns
-returns c = rw (c .no-element .ensures)
+returns c = rw (c .blank-element .ensures)
 
 pub refused-spec : {M : Type 1} → statement M
-refused-spec = tie.close (tie.spec no-element-requires returns)
+refused-spec = tie.close (tie.spec blank-element-requires returns)
