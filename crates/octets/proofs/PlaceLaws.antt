@@ -12,6 +12,7 @@ use lib.ListN.{length, getD, take, drop, set, length-take, length-drop, drop-of-
 use lib.Seq.{drop-cons, take-length}
 use borrow.Author.Tests.{leb-true, leb-false}
 use Rattle.laws.proofs.Arrays.{fill-next}
+use Rattle.laws.proofs.Parts.{stands-first, stands-behind}
 use Rattle.octets.specs.Fields.{octetsAt}
 
 module _ (s : List ℕ) where
@@ -27,6 +28,15 @@ module _ (s : List ℕ) where
   octets-part (suc n) at h =
       ap {B = List ℕ} (λ r. getD s at 0 ∷ r) (octets-part n (at + 1) (omega arith) ∙ ap (λ (k : ℕ). take n (drop k s)) (add-one at))
       ∙ sym (ap (take (suc n)) (drop-cons s at 0 (omega arith)))
+
+  -- those that stand there
+  pub octets-stand : (o r : List ℕ) (at : ℕ) → drop at s ≡ o ++ r → octetsAt s at (length o) ≡ o
+  unfolding octetsAt
+  octets-stand [] r at h = refl
+  octets-stand (x ∷ o) r at h =
+      let first : getD s at 0 ≡ x = stands-first s at (x ∷ o) r h 0 in
+      let rest : octetsAt s (at + 1) (length o) ≡ o = octets-stand o r (at + 1) (stands-behind s at (x ∷ []) (o ++ r) h (at + 1) refl) in
+      rw (first, rest)
 
   -- past the end every octet is 0, wherever
   pub octets-past : (n a b : ℕ) → length s ≤ a → length s ≤ b → octetsAt s a n ≡ octetsAt s b n
