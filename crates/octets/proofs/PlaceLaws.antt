@@ -29,14 +29,17 @@ module _ (s : List ℕ) where
       ap {B = List ℕ} (λ r. getD s at 0 ∷ r) (octets-part n (at + 1) (omega arith) ∙ ap (λ (k : ℕ). take n (drop k s)) (add-one at))
       ∙ sym (ap (take (suc n)) (drop-cons s at 0 (omega arith)))
 
-  -- those that stand there
-  pub octets-stand : (o r : List ℕ) (at : ℕ) → drop at s ≡ o ++ r → octetsAt s at (length o) ≡ o
+  all-stand : (o r : List ℕ) (at : ℕ) → drop at s ≡ o ++ r → octetsAt s at (length o) ≡ o
   unfolding octetsAt
-  octets-stand [] r at h = refl
-  octets-stand (x ∷ o) r at h =
+  all-stand [] r at h = refl
+  all-stand (x ∷ o) r at h =
       let first : getD s at 0 ≡ x = stands-first s at (x ∷ o) r h 0 in
-      let rest : octetsAt s (at + 1) (length o) ≡ o = octets-stand o r (at + 1) (stands-behind s at (x ∷ []) (o ++ r) h (at + 1) refl) in
+      let rest : octetsAt s (at + 1) (length o) ≡ o = all-stand o r (at + 1) (stands-behind s at (x ∷ []) (o ++ r) h (at + 1) refl) in
       rw (first, rest)
+
+  -- those that stand there
+  pub octets-stand : (at n : ℕ) (o r : List ℕ) → length o ≡ n → drop at s ≡ o ++ r → octetsAt s at n ≡ o
+  octets-stand at n o r e h = ap (octetsAt s at) (sym e) ∙ all-stand o r at h
 
   -- past the end every octet is 0, wherever
   pub octets-past : (n a b : ℕ) → length s ≤ a → length s ≤ b → octetsAt s a n ≡ octetsAt s b n

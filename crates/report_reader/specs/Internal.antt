@@ -11,11 +11,16 @@ use Rattle.report_reader.specs.declared.Event.{Event}
 use Rattle.report_reader.specs.declared.Element.{Element}
 use Rattle.report_reader.specs.declared.Step.{Step}
 use Rattle.report_reader.specs.declared.Verdict.{Verdict}
-use Rattle.report_reader.specs.Reader.{noEvent, eventAt, plainElement, foundStep}
+use Rattle.report_reader.specs.declared.Walk.{Walk}
+use Rattle.report_reader.specs.Reader.{noEvent, eventAt, plainElement, foundStep, Reading}
 
 -- all but the fields that are only handed out
 unfoldable pub verdictOf : Step → Verdict
 verdictOf t = record { refusal = t .refusal; found = t .found; logged = t .element .logged; subs = t .element .subs; next = t .next .at }
+
+-- what it keeps of a reading: of the elements only their number
+abbrev pub walkOf : Reading → Walk
+walkOf x = record { refusal = x .refusal; at = x .at; count = length (x .elements) }
 
 -- ---- the fields of what was found at a position
 
@@ -33,11 +38,10 @@ foundElement s at v = record {
   event = transitionAt s (at + 5) (v .logged);
 }
 
--- what was found stands in the frame, with its token, type and status, and with its transition
+-- what was found stands in the frame, with its token, type and status
 pub record Fits (s : List ℕ) (at : ℕ) (v : Verdict) : Type 0 where
   pub head : at + 5 ≤ v .next
   pub within : v .next ≤ length s
-  pub event : v .logged ≡ true → at + 35 ≤ length s
 
 -- an element with its fields; or the refusal alone; or, of another ID, the next position alone
 unfoldable pub stepOf : List ℕ → ℕ → Verdict → Step

@@ -7,7 +7,7 @@ use Rattle.report_reader.proofs.transition_at.Statement.{statement}
 use Rattle.report_reader.proofs.transition_at.Tie as tie
 
 event-at-requires : tie.Need-event-at-requires
-event-at-requires c κs = c .before .before .pre (c .if1 .taken)
+event-at-requires c κs = search needs
 
 returns : tie.Need-returns
 unfolding transitionAt if_then_else_
