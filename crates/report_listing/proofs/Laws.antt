@@ -7,14 +7,13 @@ use mathlib.Core.List.{List, [], _∷_, _++_, append-nil}
 use native.Mathlib.Omega.{arith}
 use lib.ListN.{length, length-append}
 use lib.Dec.{eqb}
-use borrow.Author.Tests.{eq-eqb, ne-eqb, eqb-true, eqb-false, ltb-false, not-true, not-false}
+use borrow.Author.Tests.{eq-eqb, ne-eqb, eqb-true, eqb-false, not-true, not-false}
 use Rattle.laws.specs.Choice.{if_then_else_}
 use Rattle.laws.specs.Buffers.{pieces, wrote, putAt}
 use Rattle.laws.proofs.Choice.{either}
 use Rattle.laws.proofs.Pieces.{pieces-snoc}
 use Rattle.laws.proofs.Walk.{Rest, start, done, last, again, go-on, stop-refused, stop-end}
 use Rattle.octets.specs.declared.numbers.Kind.{Kind}
-use Rattle.octets.specs.declared.numbers.Kind.the-variants.{Event, Diagnostic}
 use Rattle.octets.specs.Refusals.{noRefusal}
 use Rattle.octets.specs.Numbers.{reportAction}
 use Rattle.octets.specs.Frames.{frameCause}

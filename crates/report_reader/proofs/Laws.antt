@@ -1,11 +1,12 @@
--- Laws of the reader: a step that is not refused moves on, and not past the end; its verdict says the rest of it; where a transition stands, an element was found, and how many octets it takes; a turn of the validating loop.
+-- Laws of the reader: a transition is read of the part that it stands in; a step that is not refused moves on, and not past the end; its verdict says the rest of it; where a transition stands, an element was found, and how many octets it takes; a turn of the validating loop.
 -- Assumes nothing.
 use Prim.Native.Nat.{ℕ, _+_, _-_, _≤_, _<_}
 use mathlib.Core.Path.{_≡_, refl, sym, ap, _∙_}
 use mathlib.Core.Bool.{Bool, true, false, not}
 use mathlib.Core.List.{List, [], _∷_}
+use native.Mathlib.Nat.{add-zero}
 use native.Mathlib.Omega.{arith}
-use lib.ListN.{length, getD, length-append}
+use lib.ListN.{length, getD, take, drop, length-append}
 use lib.Dec.{eqb}
 use borrow.Author.Tests.{eqb-true, eqb-false, ltb-false, not-true, not-false}
 use Rattle.laws.specs.Choice.{if_then_else_}
@@ -15,14 +16,41 @@ use Rattle.octets.specs.declared.numbers.Kind.{Kind}
 use Rattle.octets.specs.declared.numbers.Kind.the-variants.{Event, Diagnostic}
 use Rattle.octets.specs.Refusals.{noRefusal}
 use Rattle.octets.specs.Elements.{pieceEnd}
+use Rattle.octets.specs.Times.{timeAt}
+use Rattle.octets.proofs.PlaceLaws.{octet-within, octets-within}
 use Rattle.octets.proofs.ElementLaws.{piece-ends}
 use Rattle.subelements.specs.declared.Subelements.{Subelements}
 use Rattle.subelements.specs.Subelements.{walk}
 use Rattle.report_reader.specs.declared.Step.{Step}
 use Rattle.report_reader.specs.declared.Verdict.{Verdict}
 use Rattle.report_reader.specs.declared.Walk.{Walk}
-use Rattle.report_reader.specs.Reader.{refusedStep, skippedStep, foundStep, plainStep, loggedStep, bareStep, transitionStep, eventStep, walkedStep, diagnosticStep, kindStep, ownReportStep, stepAt, elementReadAt, Reading, reading, gathered, unread, readStep, readElements}
+use Rattle.report_reader.specs.Reader.{eventAt, refusedStep, skippedStep, foundStep, plainStep, loggedStep, bareStep, transitionStep, eventStep, walkedStep, diagnosticStep, kindStep, ownReportStep, stepAt, elementReadAt, Reading, reading, gathered, unread, readStep, readElements}
 use Rattle.report_reader.specs.Internal.{verdictOf, walkOf, transitionAt, foundElement, Fits, stepOf}
+
+-- ---- a transition, read of the part that it stands in
+
+module _ (s : List ℕ) (at m : ℕ) where
+  pub time-part : 9 ≤ m → timeAt (take m (drop at s)) 0 ≡ timeAt s at
+  time-part h = octets-within s m at 9 0 h ∙ ap (timeAt s) (add-zero at)
+
+  pub event-part : 30 ≤ m → eventAt (take m (drop at s)) 0 ≡ eventAt s at
+  unfolding eventAt
+  event-part h =
+      let e : at + 21 + 1 ≡ at + 22 = omega arith in
+      let f : at + 24 + 1 ≡ at + 25 = omega arith in
+      rw (
+        e,
+        f,
+        time-part (omega arith),
+        octets-within s m at 6 9 (omega arith),
+        octets-within s m at 6 15 (omega arith),
+        octet-within s m at 21 (omega arith),
+        octet-within s m at 22 (omega arith),
+        octet-within s m at 23 (omega arith),
+        octet-within s m at 24 (omega arith),
+        octet-within s m at 25 (omega arith),
+        octets-within s m at 4 26 (omega arith),
+      )
 
 -- ---- an event report of length 3 is plain
 
@@ -124,8 +152,8 @@ stands-fits : (s : List ℕ) (at : ℕ) {t : Step} → Stands s at t → verdict
 unfolding verdictOf plainStep loggedStep
 stands-fits s at (is-refused n p h) e = never e
 stands-fits s at (is-skipped n on within) e = never e
-stands-fits s at (is-plain n subs few h) e = record { head = omega arith; within = h }
-stands-fits s at (is-logged h) e = record { head = omega arith; within = h }
+stands-fits s at (is-plain n subs few h) e = record { head = omega arith; within = h; event = never }
+stands-fits s at (is-logged h) e = record { head = omega arith; within = h; event = λ _. h }
 
 module _ (s : List ℕ) (kind : Kind) (at : ℕ) where
   pub step-told : stepOf s at (verdictOf (stepAt s kind at)) ≡ stepAt s kind at

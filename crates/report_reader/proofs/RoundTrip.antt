@@ -1,11 +1,10 @@
 -- The round trip: what is told in a report frame is read back, element by element and in whole frames.
 -- Assumes nothing.
-use Prim.Native.Nat.{ℕ, suc, _+_, _-_, _≤_, _<_}
+use Prim.Native.Nat.{ℕ, _+_, _-_, _≤_, _<_}
 use mathlib.Core.Path.{_≡_, refl, sym, ap, _∙_}
 use mathlib.Core.Bool.{true, false}
 use mathlib.Core.List.{List, [], _∷_, _++_, map, map-append, append-assoc, append-nil}
-use lib.ListN.{length, getD, take, drop, length-append, length-drop, length-map, List·getD-append}
-use lib.Seq.{take-all, take-at, take-append-le, drop-append-le, drop-drop}
+use lib.ListN.{length, getD, drop, length-append, length-map}
 use borrow.Author.Tests.{le-ltb, le-leb, ne-eqb, eq-eqb}
 use native.Mathlib.Omega.{arith}
 use Rattle.laws.specs.Members.{All}
@@ -18,7 +17,7 @@ use Rattle.laws.proofs.Parts.{stands-at, stands-first, stands-length, stands-be
 use Rattle.laws.proofs.Pieces.{Each, each-all, along}
 use Rattle.octets.specs.declared.numbers.Kind.{Kind}
 use Rattle.octets.specs.declared.numbers.Kind.the-variants.{Event, Diagnostic}
-use Rattle.octets.specs.Numbers.{category, reportAction, reportId, successful, longestFrame}
+use Rattle.octets.specs.Numbers.{reportAction, reportId, successful, longestFrame}
 use Rattle.octets.specs.Refusals.{noRefusal}
 use Rattle.octets.specs.Addresses.{isGroup, addressAt}
 use Rattle.octets.specs.Times.{goodTime, timeAt}
@@ -36,10 +35,8 @@ use Rattle.events.specs.Loggings.{Logging, entryFor, TransitionLengths}
 use Rattle.events.specs.declared.Entry.{Entry}
 use Rattle.reports.specs.Reports.{reportElement, eventElement}
 use Rattle.report_reader.specs.declared.Event.{Event as Fields}
-use Rattle.report_reader.specs.declared.Element.{Element}
-use Rattle.report_reader.specs.declared.Step.{Step}
-use Rattle.report_reader.specs.Reader.{eventAt, plainElement, loggedElement, foundStep, plainStep, loggedStep, transitionStep, eventStep, walkedStep, diagnosticStep, ownReportStep, stepAt, reportOf, readReport, elementReadAt, reading, gathered, unread, readStep, readElements}
-use Rattle.report_reader.specs.Contents.{Content, statusOnly, loggedEvent, keptUnread, withSubelements, Valid, contentOctets, contentFrame, reported, contentRead, ReadAs, ReportRoundTrip}
+use Rattle.report_reader.specs.Reader.{eventAt, plainElement, loggedElement, foundStep, plainStep, loggedStep, transitionStep, eventStep, walkedStep, diagnosticStep, ownReportStep, stepAt, reportOf, readReport, reading, gathered, unread, readStep, readElements}
+use Rattle.report_reader.specs.Contents.{Content, statusOnly, loggedEvent, keptUnread, withSubelements, Valid, contentOctets, contentFrame, reported, contentRead, ReportRoundTrip}
 use Rattle.report_reader.proofs.Laws.{short-event}
 
 -- ---- subelements that are walked for their edges
@@ -150,8 +147,8 @@ transition-back s at x r w h =
     let d : List ℕ = low (t .result) ∷ high (t .result) ∷ e in
     let z : List ℕ = low tus ∷ high tus ∷ t .reason ∷ low (t .result) ∷ high (t .result) ∷ t .signals in
     let at-time : drop at s ≡ t .time ++ (((t .source ++ t .target) ++ z) ++ r) = h ∙ append-assoc (t .time) ((t .source ++ t .target) ++ z) r in
-    let at-source : drop (at + 9) s ≡ t .source ++ (t .target ++ (z ++ r)) =
-        stands-behind s at (t .time) _ at-time (at + 9) (omega (arith, w .time)) ∙ append-assoc (t .source ++ t .target) z r ∙ append-assoc (t .source) (t .target) (z ++ r) in
+    let body : ((t .source ++ t .target) ++ z) ++ r ≡ t .source ++ (t .target ++ (z ++ r)) = append-assoc (t .source ++ t .target) z r ∙ append-assoc (t .source) (t .target) (z ++ r) in
+    let at-source : drop (at + 9) s ≡ t .source ++ (t .target ++ (z ++ r)) = stands-behind s at (t .time) _ at-time (at + 9) (omega (arith, w .time)) ∙ body in
     let at-target : drop (at + 15) s ≡ t .target ++ (z ++ r) = stands-behind s (at + 9) (t .source) _ at-source (at + 15) (omega (arith, w .source)) in
     let at-took : drop (at + 21) s ≡ low tus ∷ high tus ∷ t .reason ∷ d = stands-behind s (at + 15) (t .target) _ at-target (at + 21) (omega (arith, w .target)) in
     let at-reason : drop (at + 23) s ≡ t .reason ∷ d = stands-behind s (at + 21) (low tus ∷ high tus ∷ []) (t .reason ∷ d) at-took (at + 23) (omega arith) in

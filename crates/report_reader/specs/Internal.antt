@@ -38,10 +38,11 @@ foundElement s at v = record {
   event = transitionAt s (at + 5) (v .logged);
 }
 
--- what was found stands in the frame, with its token, type and status
+-- what was found stands in the frame, with its token, type and status, and with its transition
 pub record Fits (s : List ℕ) (at : ℕ) (v : Verdict) : Type 0 where
   pub head : at + 5 ≤ v .next
   pub within : v .next ≤ length s
+  pub event : v .logged ≡ true → at + 35 ≤ length s
 
 -- an element with its fields; or the refusal alone; or, of another ID, the next position alone
 unfoldable pub stepOf : List ℕ → ℕ → Verdict → Step

@@ -188,7 +188,7 @@ fn validate_transition(s: &[u8], at: usize, n: usize) -> Verdict
     if n != 33 {
         return refused(causes::BAD_REPORT_BODY, at);
     }
-    if !good_time(time_at(s, at + 5)) {
+    if !good_time(time_at(&s[at + 5..at + 14], 0)) {
         return refused(causes::BAD_TIME, at);
     }
     logged(at)
@@ -263,11 +263,11 @@ fn validate_at(s: &[u8], kind: Kind, at: usize) -> Verdict
 
 // The transition at a position, where one is.
 fn transition_at(s: &[u8], at: usize, logged: bool) -> Event
-    requires { ⌜ at ≤ length (now s) ⌝ }
+    requires { ⌜ (logged ≡ true → at + 30 ≤ length (now s)) ⌝ }
     ensures { λ r. ⌜ r ≡ transitionAt (now (s .entry)) at logged ⌝ }
 {
     if logged {
-        return event_at(s, at);
+        return event_at(&s[at..at + 30], 0);
     }
     no_event()
 }

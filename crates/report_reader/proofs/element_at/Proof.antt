@@ -1,5 +1,6 @@
 -- `report_reader::element_at` meets its contract.
 -- Assumes nothing.
+use native.Mathlib.Omega.{arith}
 use Rattle.report_reader.specs.Internal.{foundElement}
 use borrow.Author.Needs.{needs}
 use Rattle.report_reader.proofs.element_at.Statement.{statement}
@@ -33,7 +34,7 @@ add-transition-at : tie.Need-add-transition-at
 add-transition-at c = search needs
 
 transition-at-requires : tie.Need-transition-at-requires
-transition-at-requires c κs = search needs
+transition-at-requires c κs e = let h = c .before .before .before .before .before .pre .event e in omega arith
 
 returns : tie.Need-returns
 unfolding foundElement
