@@ -22,7 +22,7 @@ ghost use mathlib.Core.Path.{_≡_};
 ghost use mathlib.Core.Bool.{true};
 ghost use mathlib.Core.List.{List};
 ghost use Prim.Native.Nat.{ℕ, _+_, _^_, _≤_, _<_};
-ghost use lib.ListN.{length};
+ghost use lib.ListN.{length, getD};
 ghost use Rattle.report_reader.specs.declared.Step.{Step};
 ghost use Rattle.report_reader.specs.Reader.{noEvent, eventAt, refusedStep, skippedStep, plainStep, loggedStep, transitionStep, eventStep, walkedStep, diagnosticStep, ownReportStep, stepAt, Reading, gathered, readElements, refusedReport, reportOf, readReport};
 ghost use Rattle.report_reader.specs.Internal.{verdictOf, walkOf, transitionAt, foundElement, Fits, stepOf};
@@ -412,7 +412,15 @@ fn report_of(kind: Kind, dialog: u8, w: Walk) -> Report
     }
 }
 
-// Validates a whole frame, given its destination.
+// A frame of a kind, by its elements.
+fn validated(s: &[u8], kind: Kind) -> Report
+    ensures { λ r. ⌜ r ≡ reportOf kind (getD (now (s .entry)) 2 0) (readElements (now (s .entry)) kind) ⌝ }
+{
+    report_of(kind, octet(s, 2), validate(s, kind))
+}
+
+// Validates a whole frame, given its destination. Each kind has a loop of its own, in which the kind is
+// a constant: `validate_at` is then inlined.
 pub fn read_report(destination: [u8; 6], s: &[u8]) -> Report
     ensures { λ r. ⌜ r ≡ readReport destination (now (s .entry)) ⌝ }
 {
@@ -424,5 +432,8 @@ pub fn read_report(destination: [u8; 6], s: &[u8]) -> Report
     if cause != 0 {
         return refused_report(cause, 0);
     }
-    report_of(kind, octet(s, 2), validate(s, kind))
+    match kind {
+        Kind::Event => validated(s, Kind::Event),
+        Kind::Diagnostic => validated(s, Kind::Diagnostic),
+    }
 }

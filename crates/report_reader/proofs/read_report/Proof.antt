@@ -40,20 +40,29 @@ returns-2 c =
     let kind = c .before .before .before .before .frame-kind .ensures ∙ ap (frameKind _) (c .before .before .before .before .before .report-action .ensures) in
     rw (← c .before .before .before .before .before .before .before .is-group .ensures, c .before .before .before .before .before .before .if1 .left, ← kind, ← c .before .before .before .report-action2 .ensures, ← c .before .before .frame-cause .ensures, ne-eqb _ _ (c .before .if2 .taken)) (c .refused-report2 .ensures)
 
-octet-requires : tie.Need-octet-requires
-octet-requires c κs = search needs
+enum-told : tie.Need-enum-told
+enum-told c = search needs
 
-validate-requires : tie.Need-validate-requires
-validate-requires c κs = search needs
+validated-requires : tie.Need-validated-requires
+validated-requires c κs = search needs
 
-report-of-requires : tie.Need-report-of-requires
-report-of-requires c κs = search needs
+enum-told-2 : tie.Need-enum-told-2
+enum-told-2 c = search needs
+
+validated-requires-2 : tie.Need-validated-requires-2
+validated-requires-2 c κs = search needs
 
 returns-3 : tie.Need-returns-3
 unfolding readReport if_then_else_
 returns-3 c =
     let kind = c .before .before .before .before .before .before .frame-kind .ensures ∙ ap (frameKind _) (c .before .before .before .before .before .before .before .report-action .ensures) in
-    rw (← c .before .before .before .before .before .before .before .before .before .is-group .ensures, c .before .before .before .before .before .before .before .before .if1 .left, ← kind, ← c .before .before .before .before .before .report-action2 .ensures, ← c .before .before .before .before .frame-cause .ensures, eq-eqb _ _ (c .before .before .before .if2 .left), ← c .before .before .octet .ensures) (c .report-of .ensures _ (c .before .validate .ensures))
+    rw (← c .before .before .before .before .before .before .before .before .before .is-group .ensures, c .before .before .before .before .before .before .before .before .if1 .left, ← kind, ← c .before .before .before .before .before .report-action2 .ensures, ← c .before .before .before .before .frame-cause .ensures, eq-eqb _ _ (c .before .before .before .if2 .left), c .before .enum-told .given .1) (c .validated .ensures)
+
+returns-4 : tie.Need-returns-4
+unfolding readReport if_then_else_
+returns-4 c =
+    let kind = c .before .before .before .before .before .before .frame-kind .ensures ∙ ap (frameKind _) (c .before .before .before .before .before .before .before .report-action .ensures) in
+    rw (← c .before .before .before .before .before .before .before .before .before .is-group .ensures, c .before .before .before .before .before .before .before .before .if1 .left, ← kind, ← c .before .before .before .before .before .report-action2 .ensures, ← c .before .before .before .before .frame-cause .ensures, eq-eqb _ _ (c .before .before .before .if2 .left), c .before .enum-told2 .given .1) (c .validated2 .ensures)
 
 pub read-report-spec : {M : Type 1} → statement M
 read-report-spec =
@@ -68,7 +77,9 @@ read-report-spec =
     frame-cause-requires
     refused-report-requires-2
     returns-2
-    octet-requires
-    validate-requires
-    report-of-requires
-    returns-3)
+    enum-told
+    validated-requires
+    enum-told-2
+    validated-requires-2
+    returns-3
+    returns-4)
