@@ -180,7 +180,8 @@ fn logged(at: usize) -> Verdict
     }
 }
 
-// A Successful report of event type 0, not of length 3.
+// A Successful report of event type 0, not of length 3. Its time is read of a part of the frame, whose
+// length is a constant: the compiler takes out the tests for the end.
 fn validate_transition(s: &[u8], at: usize, n: usize) -> Verdict
     requires { ⌜ (n ≡ 3 → ⊥) × (at + 2 + n ≤ length (now s)) ⌝ }
     ensures { λ r. ⌜ r ≡ verdictOf (transitionStep (now (s .entry)) at n) ⌝ }
@@ -261,7 +262,7 @@ fn validate_at(s: &[u8], kind: Kind, at: usize) -> Verdict
 
 // ---- its step, by the verdict
 
-// The transition at a position, where one is.
+// The transition at a position, where one is, read of a part for the same reason.
 fn transition_at(s: &[u8], at: usize, logged: bool) -> Event
     requires { ⌜ (logged ≡ true → at + 30 ≤ length (now s)) ⌝ }
     ensures { λ r. ⌜ r ≡ transitionAt (now (s .entry)) at logged ⌝ }
