@@ -7,22 +7,24 @@ use mathlib.Core.List.{List, [], _∷_, _++_, append-nil}
 use native.Mathlib.Omega.{arith}
 use lib.ListN.{length, length-append}
 use lib.Dec.{eqb}
-use borrow.Author.Tests.{eq-eqb, ne-eqb, eqb-true, eqb-false, ltb-false, not-true, not-false}
+use borrow.Author.Tests.{eq-eqb, ne-eqb, eqb-true, eqb-false, not-true, not-false}
 use Rattle.laws.specs.Choice.{if_then_else_}
 use Rattle.laws.specs.Buffers.{pieces, wrote, putAt}
 use Rattle.laws.proofs.Choice.{either}
 use Rattle.laws.proofs.Pieces.{pieces-snoc}
 use Rattle.laws.proofs.Walk.{Rest, start, done, last, again, go-on, stop-refused, stop-end}
 use Rattle.octets.specs.declared.numbers.Kind.{Kind}
-use Rattle.octets.specs.declared.numbers.Kind.the-variants.{Event, Diagnostic}
 use Rattle.octets.specs.Refusals.{noRefusal}
+use Rattle.octets.specs.Numbers.{reportAction}
+use Rattle.octets.specs.Frames.{frameCause}
+use Rattle.octets.proofs.FrameLaws.{head-length}
 use Rattle.texts.specs.Text.{text, decimal, Puts}
 use Rattle.texts.proofs.NumberLaws.{decimal-length}
 use Rattle.texts.proofs.PutLaws.{one, at-most, nothing, both}
 use Rattle.report_reader.specs.declared.Step.{Step}
 use Rattle.report_reader.specs.declared.Report.{Report}
-use Rattle.report_reader.specs.Reader.{stepAt, readReport, reportOf, validate, validatedReport, ElementRead, elementReadAt, Reading, reading, gathered, unread, readStep, readElements}
-use Rattle.report_reader.proofs.Laws.{Forward, goes-on, Extent, found-extent, agrees}
+use Rattle.report_reader.specs.Reader.{stepAt, reportOf, reportKind, readReport, ElementRead, elementReadAt, Reading, reading, gathered, unread, readStep, readElements}
+use Rattle.report_reader.proofs.Laws.{Forward, goes-on, Extent, found-extent}
 use Rattle.report_listing.specs.Listing.{timeField, reportElementLine, reportElementLines}
 use Rattle.report_listing.specs.Internal.{tailMost, stepLine, stepMost}
 
@@ -139,22 +141,15 @@ pub record Readable (s : List ℕ) (kind : Kind) : Type 0 where
 abbrev IsReadable : List ℕ → Report → Type 0
 IsReadable s r = r .refusal .number ≡ 0 → Readable s (r .kind)
 
-validated-readable : (s : List ℕ) (kind : Kind) → length s ≤ 2304 → IsReadable s (validatedReport s kind)
-unfolding reportOf
-validated-readable s kind few =
-    either (IsReadable s) _ _ _ (λ p z. absurd (eqb-false (validate s kind .refusal .number) 0 (not-true _ p) z))
-    (λ p _. record { few = few; fine = rw (agrees s kind) at (eqb-true (validate s kind .refusal .number) 0 (not-false _ p)) })
-
 read-readable : (destination s : List ℕ) → IsReadable s (readReport destination s)
-unfolding readReport
+unfolding readReport reportOf
 read-readable destination s =
+    let kind : Kind = reportKind s in
     either (IsReadable s) _ _ _ (λ _ z. absurd (omega arith))
-    (λ _. either (IsReadable s) _ _ _ (λ _ z. absurd (omega arith))
-    (λ _. either (IsReadable s) _ _ _ (λ _ z. absurd (omega arith))
-    (λ p. let few : length s ≤ 2304 = ltb-false 2304 (length s) p in
-    either (IsReadable s) _ _ _ (λ _ z. absurd (omega arith))
-    (λ _. either (IsReadable s) _ _ _ (λ _. validated-readable s Event few)
-    (λ _. either (IsReadable s) _ _ _ (λ _. validated-readable s Diagnostic few) (λ _ z. absurd (omega arith)))))))
+    (λ _. either (IsReadable s) _ _ _ (λ p z. absurd (eqb-false (frameCause s (reportAction kind)) 0 (not-true _ p) z))
+    (λ p. let few = head-length s (reportAction kind) (eqb-true (frameCause s (reportAction kind)) 0 (not-false _ p)) in
+    either (IsReadable s) _ _ _ (λ q z. absurd (eqb-false (readElements s kind .refusal .number) 0 (not-true _ q) z))
+    (λ q _. record { few = few; fine = eqb-true (readElements s kind .refusal .number) 0 (not-false _ q) })))
 
 pub readable : (destination s : List ℕ) (r : Report) → r ≡ readReport destination s → IsReadable s r
 readable destination s r is = rw is (read-readable destination s)
