@@ -149,7 +149,14 @@ pub fn put_refusal(buf: &mut [u8], at: usize, r: Refusal) -> usize
 }
 
 // The first line of a frame's listing.
-pub fn put_frame(buf: &mut [u8], at: usize, name: &[u8], action: u8, dialog: u8, count: usize) -> usize
+pub fn put_frame(
+    buf: &mut [u8],
+    at: usize,
+    name: &[u8],
+    action: u8,
+    dialog: u8,
+    count: usize,
+) -> usize
     ensures { λ r. ⌜ Puts (length (now (name .entry)) + 45) (frameLine (now (name .entry)) action dialog count) at (now (buf .entry)) r (now (buf .exit)) ⌝ }
 {
     let next = put_octet(buf, at, name, action);
