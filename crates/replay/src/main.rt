@@ -15,6 +15,7 @@ use traces::BUFFER;
 use traces::BUFFER_LINE;
 use traces::LINE;
 use traces::ReportCall;
+use traces::Span;
 use traces::WriterCall;
 use traces::addresses_at;
 use traces::elements_at;
@@ -30,6 +31,8 @@ use traces::report_call_at;
 use traces::setup_at;
 use traces::transition_at;
 use traces::writer_call_at;
+ghost use mathlib.Core.Path.{_≡_};
+ghost use Rattle.traces.specs.Records.{traceEnd};
 
 // A trace has at most so many octets.
 const LONGEST: usize = 262144;
@@ -66,22 +69,19 @@ fn after(outcome: Outcome) -> Station {
     outcome.station
 }
 
-// The octets of the input between two positions.
-fn part(s: &[u8], from: usize, to: usize) -> &[u8] {
-    if to < from {
-        return &s[..0];
-    }
-    if s.len() < to {
-        return &s[..0];
-    }
+// The octets of a span, as far as the input has them.
+fn part(s: &[u8], span: Span) -> &[u8] {
+    let to = least(span.to, s.len());
+    let from = least(span.from, to);
     &s[from..to]
 }
 
 fn set_up(s: &[u8], at: usize) -> Station {
     let c = setup_at(s, at);
+    let identity = c.identity;
     let list = addresses_at(s, c.list);
     let n = c.count as usize;
-    after(Station::setup(part(s, c.from, c.to), &list[..n]))
+    after(Station::setup(part(s, identity), &list[..n]))
 }
 
 fn tick(g: Station, s: &[u8], at: usize) -> Station {
@@ -97,7 +97,8 @@ fn take_frame(g: Station, s: &[u8], at: usize) -> Station {
     let reading = c.reading;
     let destination = c.destination;
     let source = c.source;
-    after(g.take_frame(reading, destination, source, part(s, c.from, c.to)))
+    let frame = c.frame;
+    after(g.take_frame(reading, destination, source, part(s, frame)))
 }
 
 fn report_into(g: Station, c: ReportCall, buf: &mut [u8]) -> Station {
@@ -161,7 +162,8 @@ fn write(s: &[u8], at: usize) {
 fn read(s: &[u8], at: usize) {
     let c = reader_call_at(s, at);
     let destination = c.destination;
-    print_report(destination, part(s, c.from, c.to));
+    let frame = c.frame;
+    print_report(destination, part(s, frame));
 }
 
 // The call of the record at a position; the station after it.
@@ -186,7 +188,9 @@ fn call(g: Station, s: &[u8], at: usize) -> Station {
 }
 
 // The records from the front, while they are whole; how far they reach.
-fn replay(s: &[u8]) -> usize {
+fn replay(s: &[u8]) -> usize
+    ensures { λ r. ⌜ r ≡ traceEnd (now (s .entry)) ⌝ }
+{
     let nobody = Station::setup(&[], &[]);
     let mut g = nobody.station;
     let mut at: usize = 0;
