@@ -6,7 +6,6 @@ use mathlib.Core.List.{List, [], _∷_}
 use lib.ListN.{length, getD}
 use lib.Dec.{eqb, ltb, leb}
 use Rattle.laws.specs.Choice.{if_then_else_}
-use Rattle.laws.specs.Walk.{repeatWhile}
 use Rattle.octets.specs.Numbers.{kindOf}
 use Rattle.octets.specs.Fields.{pairAt, octetsAt}
 use Rattle.octets.specs.Addresses.{addressAt}
@@ -67,12 +66,8 @@ fieldsEnd s number at =
 unfoldable pub recordEnd : List ℕ → ℕ → ℕ
 recordEnd s at = if leb (length s) at then 0 else fieldsEnd s (getD s at 0) (at + 1)
 
--- "The trace is refused at the first record .." that is not whole: so far the records reach from the front
 abbrev pub wholeRecord : List ℕ → ℕ → Bool
 wholeRecord s at = ltb at (recordEnd s at)
-
-unfoldable pub traceEnd : List ℕ → ℕ
-traceEnd s = repeatWhile (length s) (wholeRecord s) (recordEnd s) 0
 
 -- ---- the fields; octets past the end of the input are 0
 

@@ -1,15 +1,17 @@
--- `replay::replay` meets its contract. The invariant, `Reached`: what is left of the trace ends where the whole does.
+-- `replay::replay` meets its contract. The invariant, `Replaying`: what is left of the trace gives what the whole gives.
 -- Assumes nothing.
 use Prim.Native.Nat.{_-_}
-use lib.ListN.{length}
+use mathlib.Core.Path.{refl}
 use native.Mathlib.Omega.{arith}
-use Rattle.traces.proofs.TraceLaws.{Reached, reached-start, reached-stop, reached-next, reached-end}
+use lib.ListN.{length}
 use borrow.Author.Needs.{needs}
+use Rattle.station.specs.Views.{view}
+use Rattle.replay.proofs.Laws.{leaves, Replaying, replay-start, replay-stop, replay-end, replay-next}
 use Rattle.replay.proofs.replay.Statement.{statement}
 use Rattle.replay.proofs.replay.Tie as tie
 
 abbrev Inv-loop : tie.InvT-loop
-Inv-loop s g₀ at₀ g at = Reached s at
+Inv-loop s g₀ at₀ g at = Replaying s at (view g)
 
 abbrev μ-loop : tie.MeasureT-loop
 μ-loop s g₀ at₀ g at = length s - at
@@ -24,13 +26,13 @@ setup-requires : tie.Need-setup-requires Inv-loop μ-loop
 setup-requires c κs = search needs
 
 loop-holds : tie.Need-loop-holds Inv-loop μ-loop
-loop-holds c = reached-start _
+loop-holds c = rw (leaves _ _ _ _ refl (c .before .setup .ensures .0)) (replay-start _)
 
 record-end-requires : tie.Need-record-end-requires Inv-loop μ-loop
 record-end-requires c κs = search needs
 
 returns : tie.Need-returns Inv-loop μ-loop
-returns c = reached-stop _ _ _ (c .before .before .before .loop .inv) (c .before .record-end .ensures) (c .if1 .taken)
+returns c = replay-stop _ (c .before .before .before .loop .inv) _ (c .before .record-end .ensures) (c .if1 .taken)
 
 call-requires : tie.Need-call-requires Inv-loop μ-loop
 call-requires c κs = search needs
@@ -39,10 +41,10 @@ loop-less : tie.Need-loop-less Inv-loop μ-loop
 loop-less c = omega arith
 
 loop-again : tie.Need-loop-again Inv-loop μ-loop
-loop-again c = reached-next _ _ _ (c .before .before .before .before .loop .inv) (c .before .before .record-end .ensures) (c .before .if1 .left) (c .before .before .before .loop-test .taken)
+loop-again c = replay-next _ (c .before .before .before .before .loop .inv) _ _ (c .before .before .record-end .ensures) (c .before .if1 .left) (c .before .before .before .loop-test .taken) (c .call .ensures)
 
 returns-2 : tie.Need-returns-2 Inv-loop μ-loop
-returns-2 c = reached-end _ _ (c .before .loop .inv) (c .loop-test .left)
+returns-2 c = replay-end _ (c .before .loop .inv) (c .loop-test .left)
 
 pub replay-spec : {M : Type 1} → statement M
 replay-spec =
