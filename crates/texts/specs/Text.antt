@@ -58,11 +58,11 @@ field name n = named (text name) n
 unfoldable pub refusalLine : Refusal → List ℕ
 refusalLine r = field "refused " (r .number) ++ field " at " (r .place) ++ text "\n"
 
--- with an octet and 64 bits
+-- how many octets it has at most: the number is an octet, the place has 64 bits
 abbrev pub refusalMost : ℕ
 refusalMost = 36
 
--- `frame 0 dialog 7 elements 1`: "action, dialog token, request elements"; of a report its own
+-- `frame 0 dialog 7 elements 1`: "action, dialog token, request elements"; a report has its own name
 unfoldable pub frameLine : List ℕ → ℕ → ℕ → ℕ → List ℕ
 frameLine name action dialog count = named name action ++ field " dialog " dialog ++ field " elements " count ++ text "\n"
 

@@ -66,6 +66,7 @@ fieldsEnd s number at =
 unfoldable pub recordEnd : List ℕ → ℕ → ℕ
 recordEnd s at = if leb (length s) at then 0 else fieldsEnd s (getD s at 0) (at + 1)
 
+-- it ends behind its start
 abbrev pub wholeRecord : List ℕ → ℕ → Bool
 wholeRecord s at = ltb at (recordEnd s at)
 
