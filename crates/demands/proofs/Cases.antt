@@ -11,7 +11,7 @@ use Rattle.octets.specs.Fields.{octetsAt}
 use Rattle.octets.specs.Addresses.{same}
 use Rattle.octets.specs.Frames.{frameKind, frameCause}
 use Rattle.octets.specs.Elements.{pieceEnd}
-use Rattle.octets.specs.Times.{inRange, goodTime}
+use Rattle.octets.specs.Times.{inRange, goodDate, goodClock, goodTime}
 use Rattle.subelements.specs.Subelements.{wholeStep, subelementStep as Subelements·step, walk}
 use Rattle.requests.specs.Elements.{subelementsOf, badToken, withElement, ownRequestStep, elementStep, walkElements}
 use Rattle.requests.specs.Internal.{subelementsStart}
@@ -64,7 +64,7 @@ after kind n = step standard gate (report 13 console kind (zeros 260)) .answer �
 
 -- an event of 35 octets, and the identity behind five
 answered : after Event 38 × after Diagnostic 25
-unfolding zeros identity console slowTransition calls if_then_else_ repeatWhile same octetsAt pieceEnd inRange goodTime wholeStep Subelements·step walk subelementsOf subelementsStart any badToken withElement ownRequestStep elementStep walkElements frameKind frameCause requestOf headerCause readRequest pushed bodyOf entryOf firstOf nextPlace asked transitionMeets meetsAt meets stands passRow goodFrom goodIdentity reportElement eventElement repeated badList newRequester find put replace fillWith fill nextFrame eventTreatment openEvents takeEvents nextEventPlace gave without reportFront treatFront nextFrom nextEvent unlessDone diagnosticTreatment isLate onTime unlessOver dropLate diagnosticsOf takeDiagnostics diagnosticReport nextDiagnostic setup tickRequester tick logRequester logEntry logCall withRequester serveFound serveListed takeKind takeRequest requestCall frameCall giveEvents giveDiagnostics ifOutstanding octetsOf giveKind giveReport reportCall act readingOf step run
+unfolding zeros identity console slowTransition calls if_then_else_ repeatWhile same octetsAt pieceEnd inRange goodDate goodClock goodTime wholeStep Subelements·step walk subelementsOf subelementsStart any badToken withElement ownRequestStep elementStep walkElements frameKind frameCause requestOf headerCause readRequest pushed bodyOf entryOf firstOf nextPlace asked transitionMeets meetsAt meets stands passRow goodFrom goodIdentity reportElement eventElement repeated badList newRequester find put replace fillWith fill nextFrame eventTreatment openEvents takeEvents nextEventPlace gave without reportFront treatFront nextFrom nextEvent unlessDone diagnosticTreatment isLate onTime unlessOver dropLate diagnosticsOf takeDiagnostics diagnosticReport nextDiagnostic setup tickRequester tick logRequester logEntry logCall withRequester serveFound serveListed takeKind takeRequest requestCall frameCall giveEvents giveDiagnostics ifOutstanding octetsOf giveKind giveReport reportCall act readingOf step run
 answered = (refl, refl)
 
 -- its one logged transition has its lengths, so both are read back
