@@ -15,7 +15,7 @@ use Rattle.laws.proofs.Pieces.{pieces-snoc}
 use Rattle.laws.proofs.Walk.{Rest, start, done, last, again, go-on, stop-refused, stop-end}
 use Rattle.octets.specs.declared.numbers.Kind.{Kind}
 use Rattle.octets.specs.Refusals.{noRefusal}
-use Rattle.octets.specs.Numbers.{reportAction}
+use Rattle.octets.specs.Numbers.{reportAction, longestFrame}
 use Rattle.octets.specs.Frames.{frameCause}
 use Rattle.octets.proofs.FrameLaws.{head-length}
 use Rattle.texts.specs.Text.{text, decimal, Puts}
