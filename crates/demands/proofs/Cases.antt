@@ -22,7 +22,7 @@ use Rattle.events.specs.Choice.{firstOf, nextPlace}
 use Rattle.events.specs.Conditions.{asked, transitionMeets, meetsAt, meets}
 use Rattle.identities.specs.Identity.{stands, passRow, goodFrom, goodIdentity}
 use Rattle.reports.specs.Reports.{reportElement, eventElement}
-use Rattle.model.specs.Model.{standard, Address, Station, Call, logging, frame, report, written}
+use Rattle.model.specs.Model.{standard, Address, Station, Call, logging, frame, report, ofLength}
 use Rattle.model.specs.Requesters.{repeated, badList, newRequester, find, put}
 use Rattle.model.specs.Dialogs.{replace}
 use Rattle.model.specs.Fill.{fillWith, fill, nextFrame}
@@ -60,7 +60,7 @@ abbrev gate : Station
 gate = run standard (setup standard identity (console ∷ []) .station) calls
 
 abbrev after : Kind → ℕ → Type 0
-after kind n = step standard gate (report 13 console kind (zeros 260)) .answer ≡ written n
+after kind n = step standard gate (report 13 console kind (zeros 260)) .answer ≡ ofLength n
 
 -- an event of 35 octets, and the identity behind five
 answered : after Event 38 × after Diagnostic 25

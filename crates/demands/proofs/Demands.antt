@@ -9,7 +9,7 @@ use Rattle.laws.proofs.Members.{among-none}
 use Rattle.octets.specs.declared.numbers.Kind.{Kind}
 use Rattle.octets.specs.declared.refusals.Refusal.{Refusal}
 use Rattle.events.specs.Loggings.{Logging, TransitionLengths}
-use Rattle.model.specs.Model.{standard, Address, Call, clock, report, Result, written, refused}
+use Rattle.model.specs.Model.{standard, Address, Call, clock, report, Result, ofLength, turnedAway}
 use Rattle.model.specs.Model.{Station as Model·Station}
 use Rattle.model.specs.Stations.{setup, tick, readingOf, step}
 use Rattle.model.specs.Refusals.{lentBuffer}

@@ -20,7 +20,7 @@ use Rattle.octets.specs.Addresses.{isGroup}
 use Rattle.events.specs.declared.Entry.{Entry}
 use Rattle.identities.specs.Identity.{goodIdentity}
 use Rattle.model.specs.declared.Diagnostic.{Diagnostic as DiagnosticElement}
-use Rattle.model.specs.Model.{Address, EventRequest, DiagnosticRequest, Requester, Station, Call, report, Answer, nothing, written, refused}
+use Rattle.model.specs.Model.{Address, EventRequest, DiagnosticRequest, Requester, Station, Call, report, Answer, nothing, ofLength, turnedAway}
 use Rattle.model.specs.Requesters.{find}
 use Rattle.model.specs.Fill.{Piece, before, fill, nextFrame}
 use Rattle.model.specs.Events.{nextEvent}
@@ -29,14 +29,14 @@ use Rattle.model.specs.Stations.{Served, room, setup, tick, serveFound, serveLi
 use Rattle.model.specs.Runs.{run}
 use Rattle.report_reader.specs.Contents.{Content, contentFrame}
 use Rattle.report_reader.proofs.RoundTrip.{report-round-trip}
-use Rattle.model.specs.Sound.{Identified, named, unnamed, Sound}
+use Rattle.model.specs.Sound.{Identified, identified, unidentified, Sound}
 use Rattle.demands.specs.StationRoundTrip.{WellFormed, Gives, Chosen, events, diagnostics, RoundTrip, StationRoundTrip}
 use Rattle.model.proofs.Sound.{sound-tick, always-sound}
 use Rattle.model.proofs.FillLaws.{fill-fits}
 use Rattle.demands.proofs.Filled.{Tells, Filled, fill-tells}
 use Rattle.demands.proofs.Contents.{Good, events-tell, diagnostics-tell}
 
-written-is : (m n : ℕ) → written m ≡ written n → m ≡ n
+written-is : (m n : ℕ) → ofLength m ≡ ofLength n → m ≡ n
 written-is m n e = cc
 
 -- ---- a frame that was filled from a request
@@ -57,7 +57,7 @@ module _ {R : Type 0} (i : List ℕ) (cs : List Call) (g : Station) (kind : Kind
   unfolding nextFrame
   frame-fits few = omega (arith, fill-fits next (room b - 3) (room b - 3) q)
 
-  frame-read-back : 3 ≤ length b → ((xs : List (Content kind)) (q′ : R) → Gives kind next q xs q′ → Chosen g r kind dialog xs) → (n : ℕ) → written (length o) ≡ written n → RoundTrip i cs g a kind n (onto o b)
+  frame-read-back : 3 ≤ length b → ((xs : List (Content kind)) (q′ : R) → Gives kind next q xs q′ → Chosen g r kind dialog xs) → (n : ℕ) → ofLength (length o) ≡ ofLength n → RoundTrip i cs g a kind n (onto o b)
   frame-read-back few chosen n e =
       let l : length o ≡ n = written-is (length o) n e in
       let t : take n (onto o b) ≡ o = take-at o (drop (length o) b) n l in
@@ -78,7 +78,7 @@ module _ {R : Type 0} (i : List ℕ) (cs : List Call) (g : Station) (kind : Kind
 module _ (i : List ℕ) (cs : List Call) (whole : WellFormed cs) (g : Station) (sound : Sound i cs g) (a : Address) (b : List ℕ) (n : ℕ) where
   -- what is given for a listed requester is read back where it is written
   abbrev Makes : Kind → Served → Type 0
-  Makes kind v = v .answer ≡ written n → RoundTrip i cs g a kind n (v .buffer)
+  Makes kind v = v .answer ≡ ofLength n → RoundTrip i cs g a kind n (v .buffer)
 
   module _ (few : 3 ≤ length b) (r : Requester) (found : find a (g .requesters) ≡ some r) where
     gives-events : (q : EventRequest) → r .events ≡ some q → Makes Event (giveEvents (g .log) b r q)
@@ -90,8 +90,8 @@ module _ (i : List ℕ) (cs : List Call) (whole : WellFormed cs) (g : Station) (
 
     identity-there : Identified i g → (g .identity ≡ some i) × (goodIdentity i ≡ true)
     unfolding find
-    identity-there (named e h) = (e, h)
-    identity-there (unnamed e h) = let z : find a [] ≡ some r = ap (find a) (sym h) ∙ found in never cc
+    identity-there (identified e h) = (e, h)
+    identity-there (unidentified e h) = let z : find a [] ≡ some r = ap (find a) (sym h) ∙ found in never cc
 
     gives-diagnostics : (q : DiagnosticRequest) → r .diagnostics ≡ some q → Makes Diagnostic (giveDiagnostics (octetsOf (g .identity)) b r q)
     unfolding giveDiagnostics octetsOf
@@ -117,7 +117,7 @@ module _ (i : List ℕ) (cs : List Call) (whole : WellFormed cs) (g : Station) (
   gives-report kind r found = either (Makes kind) _ _ _ (λ _ e. never cc) (λ h. gives-kind (omega (arith, ltb-false (length b) reportBuffer h)) r found kind)
 
   found-read-back : (kind : Kind) (o : Option Requester) → find a (g .requesters) ≡ o
-      → serveFound a (giveReport (g .identity) (g .log) kind b) b g o .answer ≡ written n → RoundTrip i cs g a kind n (serveFound a (giveReport (g .identity) (g .log) kind b) b g o .buffer)
+      → serveFound a (giveReport (g .identity) (g .log) kind b) b g o .answer ≡ ofLength n → RoundTrip i cs g a kind n (serveFound a (giveReport (g .identity) (g .log) kind b) b g o .buffer)
   unfolding serveFound
   found-read-back kind none found = λ e. never cc
   found-read-back kind (some r) found = gives-report kind r found

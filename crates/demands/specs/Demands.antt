@@ -7,7 +7,7 @@ use mathlib.Core.List.{List, [], map}
 use mathlib.Core.Option.{Option}
 use Rattle.octets.specs.declared.numbers.Kind.{Kind}
 use Rattle.octets.specs.declared.refusals.Refusal.{Refusal}
-use Rattle.model.specs.Model.{standard, Address, Call, clock, report, written, refused}
+use Rattle.model.specs.Model.{standard, Address, Call, clock, report, ofLength, turnedAway}
 use Rattle.model.specs.Stations.{setup, tick, readingOf, nobody}
 use Rattle.model.specs.Refusals.{lentBuffer, causesOf, setupCauses, RefusedBy}
 use Rattle.model.specs.Runs.{sender, Reply, toSender}
@@ -29,14 +29,14 @@ pub record CodeLeftAlone (g : Station) (m : Made) (r : Refusal) : Type 0 where
   pub buffer : m .buffer ≡ lentBuffer (m .call)
 
 abbrev pub Total : Type 0
-Total = (g : Station) (m : Made) (r : Refusal) → Allowed g m → viewAnswer (m .outcome .answer) ≡ refused r → CodeLeftAlone g m r
+Total = (g : Station) (m : Made) (r : Refusal) → Allowed g m → viewAnswer (m .outcome .answer) ≡ turnedAway r → CodeLeftAlone g m r
 
 pub record CodeLeftUnnamed (o : Outcome) (r : Refusal) : Type 0 where
   pub refusal : RefusedBy setupCauses r
   pub station : view (o .station) ≡ nobody
 
 abbrev pub TotalSetup : Type 0
-TotalSetup = (i : List ℕ) (l : List Address) (o : Outcome) (r : Refusal) → SetUp i l o → viewAnswer (o .answer) ≡ refused r → CodeLeftUnnamed o r
+TotalSetup = (i : List ℕ) (l : List Address) (o : Outcome) (r : Refusal) → SetUp i l o → viewAnswer (o .answer) ≡ turnedAway r → CodeLeftUnnamed o r
 
 -- ---- demand 2, reports
 
@@ -47,7 +47,7 @@ callOf m = m .call
 abbrev pub Exact : Type 0
 Exact =
     (i : List ℕ) (l : List Address) (o : Outcome) (ms : List Made) (g : Station) → SetUp i l o → Chain (o .station) ms g
-    → (m : Made) (t : ℕ) (a : Address) (kind : Kind) (b : List ℕ) (n : ℕ) → Allowed g m → m .call ≡ report t a kind b → viewAnswer (m .outcome .answer) ≡ written n
+    → (m : Made) (t : ℕ) (a : Address) (kind : Kind) (b : List ℕ) (n : ℕ) → Allowed g m → m .call ≡ report t a kind b → viewAnswer (m .outcome .answer) ≡ ofLength n
     → RoundTrip i (map callOf ms) (tick t (view g)) a kind n (m .buffer)
 
 -- ---- demand 3

@@ -16,7 +16,7 @@ use Rattle.octets.specs.Elements.{subelements}
 use Rattle.events.specs.declared.Entry.{Entry}
 use Rattle.events.specs.Loggings.{Logging, entryFor, TransitionLengths}
 use Rattle.model.specs.declared.Diagnostic.{Diagnostic as DiagnosticElement}
-use Rattle.model.specs.Model.{Capacities, Address, EventRequest, DiagnosticRequest, Requester, Station, Call, report, written}
+use Rattle.model.specs.Model.{Capacities, Address, EventRequest, DiagnosticRequest, Requester, Station, Call, report, ofLength}
 use Rattle.model.specs.Requesters.{find}
 use Rattle.model.specs.Fill.{Piece}
 use Rattle.model.specs.Events.{nextEvent}
@@ -72,4 +72,4 @@ abbrev pub StationRoundTrip : Type 0
 StationRoundTrip =
     (most : Capacities) (i : List ℕ) (l : List Address) (cs : List Call) → WellFormed cs → (t : ℕ) (a : Address) (kind : Kind) (b : List ℕ) (n : ℕ)
     → let g = run most (setup most i l .station) cs in
-    step most g (report t a kind b) .answer ≡ written n → RoundTrip i cs (tick t g) a kind n (step most g (report t a kind b) .buffer)
+    step most g (report t a kind b) .answer ≡ ofLength n → RoundTrip i cs (tick t g) a kind n (step most g (report t a kind b) .buffer)

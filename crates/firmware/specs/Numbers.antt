@@ -8,12 +8,12 @@ use Rattle.laws.specs.Choice.{if_then_else_}
 use Rattle.octets.specs.Numbers.{kindOf}
 use Rattle.octets.specs.declared.numbers.Kind.{Kind}
 use Rattle.octets.specs.declared.numbers.Kind.the-variants.{Event, Diagnostic}
-use Rattle.model.specs.Model.{Station, Answer, accepted, nothing, written, refused, Result}
+use Rattle.model.specs.Model.{Station, Answer, accepted, nothing, ofLength, turnedAway, Result}
 use Rattle.station.specs.Views.{view}
 use Rattle.subelements.specs.declared.Condition.{Condition as Subelements·Condition}
 use Rattle.requests.specs.declared.Element.{Element as Requests·Element}
 use Rattle.request_writer.specs.declared.Written.{Written}
-use Rattle.request_writer.specs.Writer.{Outcome as Writer·Outcome}
+use Rattle.request_writer.specs.Writer.{WriteOutcome}
 use Rattle.report_reader.specs.declared.Report.{Report as Reader·Report}
 use Rattle.report_reader.specs.declared.Element.{Element as Reader·Element}
 use Rattle.report_reader.specs.declared.Step.{Step as Reader·Step}
@@ -48,8 +48,8 @@ numberedReply code cause place length = record { code = code; cause = cause; pla
 unfoldable pub replyTo : Answer → Reply
 replyTo accepted = numberedReply 0 0 0 0
 replyTo nothing = numberedReply 1 0 0 0
-replyTo (written n) = numberedReply 2 0 0 n
-replyTo (refused r) = numberedReply 3 (r .number) (r .place) 0
+replyTo (ofLength n) = numberedReply 2 0 0 n
+replyTo (turnedAway r) = numberedReply 3 (r .number) (r .place) 0
 
 -- ---- the calls on a station: the model's station and the lent buffer, with the answer's numbers
 
@@ -93,7 +93,7 @@ pub record Write : Type 0 where
 abbrev pub write : Reply → List ℕ → Write
 write reply octets = record { reply = reply; octets = octets }
 
-abbrev pub numberedWrite : Writer·Outcome → Write
+abbrev pub numberedWrite : WriteOutcome → Write
 numberedWrite o = write (replyWritten (o .answer)) (o .octets)
 
 -- ---- the report reader

@@ -9,7 +9,7 @@ use lib.Seq.{drop-append-le, drop-drop, take-at, drop-at, length-take-le, take-l
 use borrow.Author.Tests.{le-leb, lt-leb}
 use borrow.Rule.Slice.PartMut.{putMid}
 use Rattle.laws.specs.Choice.{if_then_else_}
-use Rattle.laws.specs.Buffers.{onto, Written, wrote, putFront, putAt}
+use Rattle.laws.specs.Buffers.{onto, WrittenBuffer, wrote, putFront, putAt}
 
 pub length-onto : {A : Type 0} (o s : List A) → length o ≤ length s → length (onto o s) ≡ length s
 length-onto o s h = length-append o (drop (length o) s) ∙ rw (length-drop (length o) s) (omega arith)
@@ -125,9 +125,9 @@ module _ {whole s buf : List ℕ} {at : ℕ} {rest : List ℕ} (p : Putting whol
     pub putting-at : (n : ℕ) (y : List ℕ) → wrote n y ≡ putAt o at buf → Putting whole s y n r
     putting-at n y does =
         let is = does ∙ put-at-fits o at buf (rw putting-length putting-within) in
-        let en : n ≡ at + length o = ap (λ (w : Written). w .answer) is in
+        let en : n ≡ at + length o = ap (λ (w : WrittenBuffer). w .answer) is in
         let within : at ≤ length buf = omega (arith, putting-length, putting-room) in
-        let ey : y ≡ putMid at (length buf - at) buf (onto o (take (length buf - at) (drop at buf))) = ap (λ (w : Written). w .octets) is ∙ sym (lent-tail o buf _ at within refl) in
+        let ey : y ≡ putMid at (length buf - at) buf (onto o (take (length buf - at) (drop at buf))) = ap (λ (w : WrittenBuffer). w .octets) is ∙ sym (lent-tail o buf _ at within refl) in
         rw (en, ey) (putting-next _ refl)
 
   whole-head : rest ≡ [] → p .head ≡ whole

@@ -11,19 +11,19 @@ abbrev pub onto : {A : Type 0} → List A → List A → List A
 onto o s = o ++ drop (length o) s
 
 -- the answer of a writer: a number, and the buffer afterwards
-pub record Written : Type 0 where
+pub record WrittenBuffer : Type 0 where
   pub answer : ℕ
   pub octets : List ℕ
 
-abbrev pub wrote : ℕ → List ℕ → Written
+abbrev pub wrote : ℕ → List ℕ → WrittenBuffer
 wrote n s = record { answer = n; octets = s }
 
 -- o at the front of a buffer, answered by its length; where it does not fit, nothing, answered by 0
-unfoldable pub putFront : List ℕ → List ℕ → Written
+unfoldable pub putFront : List ℕ → List ℕ → WrittenBuffer
 putFront o s = if leb (length o) (length s) then wrote (length o) (onto o s) else wrote 0 s
 
 -- o behind the first `at` octets, answered by the place behind it; where it does not fit, nothing, answered by `at`
-unfoldable pub putAt : List ℕ → ℕ → List ℕ → Written
+unfoldable pub putAt : List ℕ → ℕ → List ℕ → WrittenBuffer
 putAt o at s = if leb (at + length o) (length s) then wrote (at + length o) (take at s ++ onto o (drop at s)) else wrote at s
 
 -- the octets of a list of pieces, one behind the other, each with its number in the list

@@ -21,7 +21,7 @@ use Rattle.requests.specs.declared.Request.{Request}
 use Rattle.requests.specs.Requests.{requestCauses, readRequest}
 use Rattle.requests.proofs.Causes.{request-listed}
 use Rattle.events.specs.declared.Entry.{Entry}
-use Rattle.model.specs.Model.{Capacities, Address, Requester, Station, Call, clock, logging, frame, report, roam, change, Answer, accepted, nothing, written, refused, Result}
+use Rattle.model.specs.Model.{Capacities, Address, Requester, Station, Call, clock, logging, frame, report, roam, change, Answer, accepted, nothing, ofLength, turnedAway, Result}
 use Rattle.model.specs.Requesters.{find, put}
 use Rattle.model.specs.Stations.{refusedFor, nobody, setup, tick, logCall, Served, withRequester, serveFound, serveListed, takeRequest, requestCall, frameCall, giveEvents, giveDiagnostics, ifOutstanding, octetsOf, giveKind, giveReport, reportCall, renameWith, rename, act, readingOf, step}
 use Rattle.model.specs.Refusals.{lentBuffer, causesOf, setupCauses, RefusedBy, LeftAlone, RefusedCall, LeftUnnamed, RefusedSetup}
@@ -34,14 +34,14 @@ record Alone {S : Type 0} (causes : List ℕ) (s : S) (b : List ℕ) (r : Refusa
   buffer : b′ ≡ b
 
 abbrev IfRefused : {S : Type 0} → List ℕ → S → List ℕ → Answer → S → List ℕ → Type 0
-IfRefused causes s b answer s′ b′ = (r : Refusal) → answer ≡ refused r → Alone causes s b r s′ b′
+IfRefused causes s b answer s′ b′ = (r : Refusal) → answer ≡ turnedAway r → Alone causes s b r s′ b′
 
-refused-is : (q r : Refusal) → refused q ≡ refused r → q ≡ r
+refused-is : (q r : Refusal) → turnedAway q ≡ turnedAway r → q ≡ r
 refused-is q r e = cc
 
 module _ {S : Type 0} (causes : List ℕ) (s : S) (b : List ℕ) where
   -- a refusal that touches nothing
-  by-refusal : (q : Refusal) → RefusedBy causes q → IfRefused causes s b (refused q) s b
+  by-refusal : (q : Refusal) → RefusedBy causes q → IfRefused causes s b (turnedAway q) s b
   by-refusal q by r e = record { refusal = rw (← refused-is q r e) by; state = refl; buffer = refl }
 
   -- by a cause of the station itself

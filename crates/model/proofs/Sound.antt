@@ -24,7 +24,7 @@ use Rattle.model.specs.Model.{Capacities, Address, Requester, Station, C
 use Rattle.model.specs.Requesters.{newRequester, find, put}
 use Rattle.model.specs.Stations.{nobody, newStation, setup, tickRequester, tick, logRequester, logEntry, logCall, Served, withRequester, serveFound, serveListed, requestCall, frameCall, reportCall, renameWith, rename, act, readingOf, step}
 use Rattle.model.specs.Runs.{run}
-use Rattle.model.specs.Sound.{loggingCall, LoggedBy, Identified, named, unnamed, Sound, AlwaysSound}
+use Rattle.model.specs.Sound.{loggingCall, LoggedBy, Identified, identified, unidentified, Sound, AlwaysSound}
 
 -- ---- the log
 
@@ -55,12 +55,12 @@ module _ (cs : List Call) where
 
 module _ (i : List ℕ) where
   identified-kept : (g h : Station) → h .identity ≡ g .identity → (g .requesters ≡ [] → h .requesters ≡ []) → Identified i g → Identified i h
-  identified-kept g h e f (named p q) = named (e ∙ p) q
-  identified-kept g h e f (unnamed p q) = unnamed (e ∙ p) (f q)
+  identified-kept g h e f (identified p q) = identified (e ∙ p) q
+  identified-kept g h e f (unidentified p q) = unidentified (e ∙ p) (f q)
 
   identified-named : (g : Station) (j : List ℕ) (log : List Entry) (l : List Address) → g .identity ≡ some j → Identified i g → Identified i (newStation j log l)
-  identified-named g j log l e (named p q) = named (sym e ∙ p) q
-  identified-named g j log l e (unnamed p q) = never cc
+  identified-named g j log l e (identified p q) = identified (sym e ∙ p) q
+  identified-named g j log l e (unidentified p q) = never cc
 
 -- ---- calls
 
@@ -115,13 +115,13 @@ module _ (most : Capacities) (i : List ℕ) (cs : List Call) where
   sound-run (c ∷ rest) f g s = sound-run rest (λ x m. f x (later m)) (step most g c .station) (sound-step g c (f c first) s)
 
   sound-nobody : Sound i cs nobody
-  sound-nobody = record { log = logged-empty cs; identity = unnamed refl refl }
+  sound-nobody = record { log = logged-empty cs; identity = unidentified refl refl }
 
   sound-setup : (l : List Address) → Sound i cs (setup most i l .station)
   unfolding setup
   sound-setup l =
       either After _ _ _ (λ _. sound-nobody)
-      (λ _. either After _ _ _ (λ _. sound-nobody) (λ h. record { log = logged-empty cs; identity = named refl (not-false _ h) }))
+      (λ _. either After _ _ _ (λ _. sound-nobody) (λ h. record { log = logged-empty cs; identity = identified refl (not-false _ h) }))
 
 pub always-sound : AlwaysSound
 always-sound = record {

@@ -8,7 +8,7 @@ use mathlib.Core.List.{List, [], _∷_, _++_, map}
 use mathlib.Core.Option.{Option, none, some}
 use Rattle.laws.specs.Choice.{if_then_else_}
 use Rattle.octets.specs.Addresses.{same}
-use Rattle.model.specs.Model.{Capacities, Address, Station, Call, clock, logging, frame, report, roam, change, Answer, accepted, nothing, written, refused}
+use Rattle.model.specs.Model.{Capacities, Address, Station, Call, clock, logging, frame, report, roam, change, Answer, accepted, nothing, ofLength, turnedAway}
 use Rattle.model.specs.Stations.{setup, readingOf, step}
 use Rattle.model.specs.Runs.{run, sender, Reply, reply, toSender}
 
@@ -35,8 +35,8 @@ longer o c = record { list = o .list; later = o .later ++ (c ∷ []) }
 unfoldable pub isAccepted : Answer → Bool
 isAccepted accepted = true
 isAccepted nothing = false
-isAccepted (written n) = false
-isAccepted (refused r) = false
+isAccepted (ofLength n) = false
+isAccepted (turnedAway r) = false
 
 -- the origin after one more call, which was answered so
 unfoldable pub since : Origin → Call → Answer → Origin

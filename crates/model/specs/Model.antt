@@ -74,8 +74,8 @@ pub data Call : Type 0 where
 pub data Answer : Type 0 where
   accepted : Answer
   nothing : Answer
-  written : ℕ → Answer
-  refused : Refusal → Answer
+  ofLength : ℕ → Answer
+  turnedAway : Refusal → Answer
 
 -- what a call gives: the station after it, the answer, and the lent buffer's octets afterwards ([] where none was lent)
 pub record Result : Type 0 where

@@ -8,7 +8,7 @@ use Rattle.laws.specs.Members.{Among}
 use Rattle.octets.specs.declared.refusals.Refusal.{Refusal}
 use Rattle.octets.specs.Refusals.{noElement, groupDestination, unknownRequester, shortBuffer, badTime, badRequesterList, badIdentity}
 use Rattle.requests.specs.Requests.{requestCauses}
-use Rattle.model.specs.Model.{Capacities, Address, Station, Call, clock, logging, frame, report, roam, change, refused}
+use Rattle.model.specs.Model.{Capacities, Address, Station, Call, clock, logging, frame, report, roam, change, turnedAway}
 use Rattle.model.specs.Stations.{nobody, setup, readingOf, step}
 
 -- the lent buffer of a call at entry ([] where none is lent)
@@ -46,7 +46,7 @@ pub record LeftAlone (most : Capacities) (g : Station) (c : Call) (r : Refusal) 
   pub buffer : step most g c .buffer ≡ lentBuffer c
 
 abbrev pub RefusedCall : Type 0
-RefusedCall = (most : Capacities) (g : Station) (c : Call) (r : Refusal) → step most g c .answer ≡ refused r → LeftAlone most g c r
+RefusedCall = (most : Capacities) (g : Station) (c : Call) (r : Refusal) → step most g c .answer ≡ turnedAway r → LeftAlone most g c r
 
 -- "setup yields a gate with no console. .. Setup refused by 15 yields the same consoleless gate."
 pub record LeftUnnamed (most : Capacities) (i : List ℕ) (l : List Address) (r : Refusal) : Type 0 where
@@ -54,4 +54,4 @@ pub record LeftUnnamed (most : Capacities) (i : List ℕ) (l : List Address) (r 
   pub station : setup most i l .station ≡ nobody
 
 abbrev pub RefusedSetup : Type 0
-RefusedSetup = (most : Capacities) (i : List ℕ) (l : List Address) (r : Refusal) → setup most i l .answer ≡ refused r → LeftUnnamed most i l r
+RefusedSetup = (most : Capacities) (i : List ℕ) (l : List Address) (r : Refusal) → setup most i l .answer ≡ turnedAway r → LeftUnnamed most i l r

@@ -27,8 +27,8 @@ pub record LoggedBy (cs : List Call) (log : List Entry) : Type 0 where
 
 -- a station that setup was given the identity i for: it has it, and it is a good one; or it has none, and no requester
 pub data Identified (i : List ℕ) (g : Station) : Type 0 where
-  named : g .identity ≡ some i → goodIdentity i ≡ true → Identified i g
-  unnamed : g .identity ≡ none → g .requesters ≡ [] → Identified i g
+  identified : g .identity ≡ some i → goodIdentity i ≡ true → Identified i g
+  unidentified : g .identity ≡ none → g .requesters ≡ [] → Identified i g
 
 pub record Sound (i : List ℕ) (cs : List Call) (g : Station) : Type 0 where
   pub log : LoggedBy cs (g .log)

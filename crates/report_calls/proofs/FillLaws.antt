@@ -13,7 +13,7 @@ use lib.ListN.{length, take, drop, length-append, take-append-drop}
 use borrow.Author.Tests.{le-leb, lt-leb, leb-true, leb-false}
 use borrow.Rule.Slice.PartMut.{putMid}
 use Rattle.laws.specs.Choice.{if_then_else_}
-use Rattle.laws.specs.Buffers.{onto, Written, wrote, putFront}
+use Rattle.laws.specs.Buffers.{onto, WrittenBuffer, wrote, putFront}
 use Rattle.laws.proofs.Buffers.{length-onto, lent-length, lent, put-front-fits, put-front-short}
 use Rattle.laws.proofs.Choice.{either}
 use Rattle.octets.specs.Numbers.{category}
@@ -86,7 +86,7 @@ module _ {R : Type 0} {next : R → Option (Piece R)} {q : R} {s buf : List ℕ}
       where
         go : (t : Bool) → leb (length (p .octets)) (length (take (length buf - at) (drop at buf))) ≡ t → length s - at < length (p .octets)
         go true h =
-            let m : n ≡ length (p .octets) = ap (λ (w : Written). w .answer) (does ∙ put-front-fits (p .octets) (take (length buf - at) (drop at buf)) (leb-true _ _ h)) in
+            let m : n ≡ length (p .octets) = ap (λ (w : WrittenBuffer). w .answer) (does ∙ put-front-fits (p .octets) (take (length buf - at) (drop at buf)) (leb-true _ _ h)) in
             absurd (omega arith)
         go false h = omega (arith, filling-part, leb-false (length (p .octets)) (length (take (length buf - at) (drop at buf))) h)
 
@@ -94,7 +94,7 @@ module _ {R : Type 0} {next : R → Option (Piece R)} {q : R} {s buf : List ℕ}
     unfolding fill fillWith if_then_else_
     filling-full z =
         let long = too-long z in
-        let same = part-same at (length buf - at) buf y (ap (λ (w : Written). w .octets) (does ∙ put-front-short (p .octets) (take (length buf - at) (drop at buf)) (omega (arith, filling-part)))) in
+        let same = part-same at (length buf - at) buf y (ap (λ (w : WrittenBuffer). w .octets) (does ∙ put-front-short (p .octets) (take (length buf - at) (drop at buf)) (omega (arith, filling-part)))) in
         rw same (stops false (full (F .fuel) long) (rw e))
       where
         full : (fuel : ℕ) → length s - at < length (p .octets) → fill next fuel (length s - at) r ≡ nothingMore r
@@ -107,20 +107,20 @@ module _ {R : Type 0} {next : R → Option (Piece R)} {q : R} {s buf : List ℕ}
       where
         go : (t : Bool) → leb (length (p .octets)) (length (take (length buf - at) (drop at buf))) ≡ t → length (p .octets) ≤ length s - at
         go true h = omega (arith, filling-part, leb-true (length (p .octets)) (length (take (length buf - at) (drop at buf))) h)
-        go false h = absurd (z (ap (λ (w : Written). w .answer) (does ∙ put-front-short (p .octets) (take (length buf - at) (drop at buf)) (leb-false _ _ h))))
+        go false h = absurd (z (ap (λ (w : WrittenBuffer). w .answer) (does ∙ put-front-short (p .octets) (take (length buf - at) (drop at buf)) (leb-false _ _ h))))
 
     written : (n ≡ 0 → ⊥) → wrote n y ≡ wrote (length (p .octets)) (onto (p .octets) (take (length buf - at) (drop at buf)))
     written z = does ∙ put-front-fits (p .octets) (take (length buf - at) (drop at buf)) (omega (arith, filling-part, fitted z))
 
     pub filling-within : (n ≡ 0 → ⊥) → at + n ≤ length s
-    filling-within z = omega (arith, ap (λ (w : Written). w .answer) (written z), fitted z, F .room)
+    filling-within z = omega (arith, ap (λ (w : WrittenBuffer). w .answer) (written z), fitted z, F .room)
 
     pub filling-next : (n ≡ 0 → ⊥) → Filling next q s (putMid at (length buf - at) buf y) (at + n) (p .rest)
     unfolding fill fillWith if_then_else_
     filling-next z =
         let lb : length buf ≡ length s = filling-length in
         let h = fitted z in
-        let m : n ≡ length (p .octets) = ap (λ (w : Written). w .answer) (written z) in
+        let m : n ≡ length (p .octets) = ap (λ (w : WrittenBuffer). w .answer) (written z) in
         let k : length s - at - length (p .octets) ≡ length s - (at + length (p .octets)) = omega arith in
         rw m
         (record {
@@ -129,7 +129,7 @@ module _ {R : Type 0} {next : R → Option (Piece R)} {q : R} {s buf : List ℕ}
           ends = omega (arith, length-append (F .head) (p .octets), F .ends);
           room = omega (arith, F .room);
           enough = omega (arith, F .enough, F .room);
-          front = lent (F .head) (p .octets) s buf y at (length buf - at) (F .ends) (F .front) (omega (arith, F .room)) (omega arith) (ap (λ (w : Written). w .octets) (written z));
+          front = lent (F .head) (p .octets) s buf y at (length buf - at) (F .ends) (F .front) (omega (arith, F .room)) (omega arith) (ap (λ (w : WrittenBuffer). w .octets) (written z));
           rest =
               F .rest
               ∙ rw (turn (F .fuel) (omega (arith, F .enough, F .room)) h, k)

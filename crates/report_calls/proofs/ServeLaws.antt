@@ -14,7 +14,7 @@ use Rattle.octets.specs.declared.numbers.Kind.the-variants.{Event, Diagnostic}
 use Rattle.octets.specs.Numbers.{reportAction}
 use Rattle.events.specs.declared.Entry.{Entry}
 use Rattle.model.specs.declared.Diagnostic.{Diagnostic as Element}
-use Rattle.model.specs.Model.{EventRequest, DiagnosticRequest, written}
+use Rattle.model.specs.Model.{EventRequest, DiagnosticRequest, ofLength}
 use Rattle.model.specs.Fill.{Piece, nextFrame}
 use Rattle.model.specs.Events.{nextEvent, unlessDone}
 use Rattle.model.specs.Diagnostics.{nextDiagnostic, unlessOver}
@@ -62,7 +62,7 @@ module _ (r : Requester) (log : List Entry) (s : List ℕ) where
       ended-events (eventsAt (r .events) (f .after)) (nextEvent log (eventsAt (r .events) (f .after))) (f .done) (g .ended)
       ∙ ap (λ (q : EventRequest). unlessDone q (nextEvent log q)) (g .after) in
       rw (e, g .wrote, g .octets)
-      (ap (λ (o : Option EventRequest). served (record { address = r .address; events = o; diagnostics = viewDiagnostics (r .diagnostics) }) (written (length (P .octets))) (onto (P .octets) s)) left)
+      (ap (λ (o : Option EventRequest). served (record { address = r .address; events = o; diagnostics = viewDiagnostics (r .diagnostics) }) (ofLength (length (P .octets))) (onto (P .octets) s)) left)
 
 module _ (r : Requester) (len : ℕ) (identity s : List ℕ) where
   pub no-diagnostics : r .diagnostics .outstanding ≡ false
@@ -81,4 +81,4 @@ module _ (r : Requester) (len : ℕ) (identity s : List ℕ) where
       ended-diagnostics (take len identity) (d .dialog) (d .accepted .0) (left (f .first) (d .count) (d .elements)) (f .done) (g .ended)
       ∙ ap (unlessOver (d .dialog) (d .accepted .0)) (g .after) in
       rw (e, identity-octets len identity, g .wrote, g .octets)
-      (ap (λ (o : Option DiagnosticRequest). served (record { address = r .address; events = viewEvents (r .events); diagnostics = o }) (written (length (P .octets))) (onto (P .octets) s)) over)
+      (ap (λ (o : Option DiagnosticRequest). served (record { address = r .address; events = viewEvents (r .events); diagnostics = o }) (ofLength (length (P .octets))) (onto (P .octets) s)) over)

@@ -73,7 +73,7 @@ pub struct Step {
 
 // What the validation of a frame sees of a step: of the element's fields only whether it holds a
 // transition and how many subelements. Next is the position behind it.
-pub struct Verdict {
+struct Verdict {
     pub refusal: Refusal,
     pub found: bool,
     pub logged: bool,
@@ -82,7 +82,7 @@ pub struct Verdict {
 }
 
 // How far a frame is validated: refused, or the next position and the number of elements.
-pub struct Walk {
+struct Walk {
     pub refusal: Refusal,
     pub at: usize,
     pub count: usize,

@@ -27,14 +27,14 @@ use Rattle.octets.proofs.ElementLaws.{piece-stands}
 use Rattle.octets.proofs.FieldLaws.{pair-halves}
 use Rattle.subelements.specs.Subelements.{noFilter, walked, walk}
 use Rattle.requests.specs.declared.Element.{Element}
-use Rattle.requests.specs.Elements.{elementCapacity, Elements, leastBody, limitAt, timeoutAt, subelementsOf, blankElements, pastElements, hasToken, badToken, withElement, ownRequestStep, elementStep, moreElements}
+use Rattle.requests.specs.Elements.{elementCapacity, ElementWalk, leastBody, limitAt, timeoutAt, subelementsOf, blankElements, pastElements, hasToken, badToken, withElement, ownRequestStep, elementStep, moreElements}
 use Rattle.laws.specs.Members.{All, also, any}
 use Rattle.request_writer.specs.Frames.{filterOctets, elementBody, elementOctets}
 use Rattle.request_writer.specs.Writer.{tokenRefusal}
 use Rattle.request_writer.specs.ReadBack.{ElementLengths, present, readFilter, readElement}
 use Rattle.request_writer.proofs.ConditionsBack.{atSubelements, conditions-back}
 
-abbrev pub atElements : ℕ → ℕ → List Element → Elements
+abbrev pub atElements : ℕ → ℕ → List Element → ElementWalk
 atElements at n es = record { refusal = noRefusal; at = at; count = n; elements = es }
 
 head-length : (kind : Kind) (e : Element) → 2 ≤ length (elementOctets kind e)
@@ -167,7 +167,7 @@ accepts kind front e es =
 
 -- ---- all elements
 
-module _ (kind : Kind) (s : List ℕ) (whole : Elements) where
+module _ (kind : Kind) (s : List ℕ) (whole : ElementWalk) where
   abbrev octetsFrom : ℕ → List Element → List ℕ
   octetsFrom n es = pieces (λ (i : ℕ) (e : Element). elementOctets kind e) n es
 

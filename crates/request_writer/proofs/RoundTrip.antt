@@ -27,7 +27,7 @@ use Rattle.requests.specs.Elements.{elementCapacity, walkElements}
 use Rattle.requests.specs.Requests.{refusedRequest, lacksElement, requestOf, requestKind, headerCause, readRequest}
 use Rattle.request_writer.specs.declared.Written.{Written}
 use Rattle.request_writer.specs.Frames.{elementsOctets, frameOctets}
-use Rattle.request_writer.specs.Writer.{placeBehind, refusedWritten, writtenLength, tokenRefusal, elementsAnswer, frameAnswer, writeAnswer, writeOctets, Outcome, outcome, writeRequest}
+use Rattle.request_writer.specs.Writer.{placeBehind, refusedWritten, writtenLength, tokenRefusal, elementsAnswer, frameAnswer, writeAnswer, writeOctets, WriteOutcome, outcome, writeRequest}
 use Rattle.request_writer.specs.ReadBack.{ElementLengths, readBack, RequestRoundTrip, echoed}
 use Rattle.request_writer.proofs.Lengths.{elements-length}
 use Rattle.request_writer.proofs.ElementsBack.{atElements, elements-back}
@@ -164,10 +164,10 @@ module _ (kind : Kind) (dialog : ℕ) (es : List Element) (count : ℕ) (shapes 
   echo-read s y w r long wrote read = rw (← long) (go (eqb (writeAnswer kind dialog es count (length s) .refusal .number) 0) refl)
     where
       len : w .length ≡ writeAnswer kind dialog es count (length s) .length
-      len = ap (λ (o : Outcome). o .answer .length) wrote
+      len = ap (λ (o : WriteOutcome). o .answer .length) wrote
 
       octets : y ≡ writeOctets kind dialog es count s
-      octets = ap (λ (o : Outcome). o .octets) wrote
+      octets = ap (λ (o : WriteOutcome). o .octets) wrote
 
       go : (t : Bool) → eqb (writeAnswer kind dialog es count (length s) .refusal .number) 0 ≡ t → r ≡ (if t then readBack kind dialog es count else refusedRequest badFrameLength 0)
       go true q = read ∙ rw (len, octets) (read-back kind dialog es count s eight shapes (eqb-true _ 0 q))

@@ -64,12 +64,12 @@ writeOctets kind dialog es count s =
     else s
 
 -- the answer, and the buffer afterwards
-pub record Outcome : Type 0 where
+pub record WriteOutcome : Type 0 where
   pub answer : Written
   pub octets : List ℕ
 
-abbrev pub outcome : Written → List ℕ → Outcome
+abbrev pub outcome : Written → List ℕ → WriteOutcome
 outcome w s = record { answer = w; octets = s }
 
-abbrev pub writeRequest : Kind → ℕ → List Element → ℕ → List ℕ → Outcome
+abbrev pub writeRequest : Kind → ℕ → List Element → ℕ → List ℕ → WriteOutcome
 writeRequest kind dialog es count s = outcome (writeAnswer kind dialog es count (length s)) (writeOctets kind dialog es count s)

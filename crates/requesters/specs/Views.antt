@@ -7,7 +7,7 @@ use mathlib.Core.Option.{Option, none, some}
 use lib.Dec.{eqb}
 use lib.ListN.{take, drop}
 use Rattle.laws.specs.Choice.{if_then_else_}
-use Rattle.model.specs.Model.{EventRequest, DiagnosticRequest, Requester, Answer, accepted, nothing, written, refused}
+use Rattle.model.specs.Model.{EventRequest, DiagnosticRequest, Requester, Answer, accepted, nothing, ofLength, turnedAway}
 use Rattle.model.specs.Stations.{Served, served}
 use Rattle.requesters.specs.declared.Served.{Served as Code·Served}
 use Rattle.requesters.specs.declared.EventRequest.{EventRequest as Code·EventRequest}
@@ -43,8 +43,8 @@ viewRequester r = record { address = r .address; events = viewEvents (r .events)
 unfoldable pub viewAnswer : Code·Answer → Answer
 viewAnswer Accepted = accepted
 viewAnswer Nothing = nothing
-viewAnswer (Length n) = written n
-viewAnswer (Refused r) = refused r
+viewAnswer (Length n) = ofLength n
+viewAnswer (Refused r) = turnedAway r
 
 -- a length of 0: no identity
 unfoldable pub viewIdentity : ℕ → List ℕ → Option (List ℕ)

@@ -15,7 +15,7 @@ use Rattle.octets.specs.Frames.{frameCause}
 use Rattle.subelements.specs.declared.Subelements.{Subelements}
 use Rattle.subelements.specs.Subelements.{walked, wholeStep, subelementStep, walk}
 use Rattle.requests.specs.declared.Request.{Request}
-use Rattle.requests.specs.Elements.{subelementsOf, started, Elements, withElement, ownRequestStep, elementStep, walkElements}
+use Rattle.requests.specs.Elements.{subelementsOf, started, ElementWalk, withElement, ownRequestStep, elementStep, walkElements}
 use Rattle.requests.specs.Requests.{requestCauses, requestOf, requestKind, headerCause, readRequest}
 
 -- none (number 0), or one of them
@@ -49,10 +49,10 @@ subelements-listed s Diagnostic at end = walk-listed s 0 _ end
 
 -- ---- elements
 
-abbrev Walked : Elements → Type 0
+abbrev Walked : ElementWalk → Type 0
 Walked w = Listed (w .refusal .number)
 
-element-listed : (most : ℕ) (s : List ℕ) (kind : Kind) (w : Elements) → Walked (elementStep most s kind w)
+element-listed : (most : ℕ) (s : List ℕ) (kind : Kind) (w : ElementWalk) → Walked (elementStep most s kind w)
 unfolding elementStep ownRequestStep withElement
 element-listed most s kind w =
     either Walked _ _ _ (λ _. among-test 4 causes refl)

@@ -26,7 +26,7 @@ use Rattle.subelements.specs.Subelements.{walked, refusedWalk, past, wholeStep,
 use Rattle.subelements.proofs.Laws.{walk-at-end}
 use Rattle.requests.specs.declared.Element.{Element}
 use Rattle.requests.specs.declared.Request.{Request}
-use Rattle.requests.specs.Elements.{elementCapacity, pastElements, leastBody, subelementsOf, elementOf, blankElements, hasToken, badToken, Elements, refusedElements, withElement, ownRequestStep, elementStep, moreElements, walkElements}
+use Rattle.requests.specs.Elements.{elementCapacity, pastElements, leastBody, subelementsOf, elementOf, blankElements, hasToken, badToken, ElementWalk, refusedElements, withElement, ownRequestStep, elementStep, moreElements, walkElements}
 use Rattle.requests.specs.Internal.{subelementsStart}
 use Rattle.requests.specs.Requests.{refusedRequest, lacksElement, requestOf, headerCause}
 
@@ -105,7 +105,7 @@ header-length s kind =
 -- ---- a turn of the walk's loop, by the tests that lead through it
 
 -- a walk that is not refused
-abbrev walks : ℕ → ℕ → List Element → Elements
+abbrev walks : ℕ → ℕ → List Element → ElementWalk
 walks at count es = record { refusal = noRefusal; at = at; count = count; elements = es }
 
 -- what holds before each turn: eight places, and what is left of the walk gives what the whole walk gives
@@ -122,7 +122,7 @@ unfolding requestOf if_then_else_
 refused-walk kind dialog n p z = rw (ne-eqb n 0 z)
 
 module _ {s : List ℕ} {kind : Kind} {at count : ℕ} {es : List Element} (i : Walking s kind at count es) (dialog : ℕ) where
-  abbrev w : Elements
+  abbrev w : ElementWalk
   w = walks at count es
 
   abbrev Reads : Request → Type 0

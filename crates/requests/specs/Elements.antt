@@ -80,31 +80,31 @@ unfoldable pub badToken : Kind → List Element → ℕ → Bool
 badToken kind es token = if zeroToken kind token then true else hasToken es token
 
 -- how far a walk has come: refused, or the next position, and the elements so far: the first count; the other places are blank
-pub record Elements : Type 0 where
+pub record ElementWalk : Type 0 where
   pub refusal : Refusal
   pub at : ℕ
   pub count : ℕ
   pub elements : List Element
 
 -- a walk with no element yet; a refused walk has nothing else
-abbrev pub started : Refusal → ℕ → Elements
+abbrev pub started : Refusal → ℕ → ElementWalk
 started r at = record { refusal = r; at = at; count = 0; elements = blankElements }
 
-abbrev pub refusedElements : ℕ → ℕ → Elements
+abbrev pub refusedElements : ℕ → ℕ → ElementWalk
 refusedElements number place = started (refused number place) 0
 
 -- "others are passed over"
-abbrev pub passed : Elements → ℕ → Elements
+abbrev pub passed : ElementWalk → ℕ → ElementWalk
 passed w end = record { refusal = noRefusal; at = end; count = w .count; elements = w .elements }
 
 -- the refusal of the element's subelements, or one element more
-unfoldable pub withElement : List ℕ → Kind → Elements → ℕ → Subelements → Elements
+unfoldable pub withElement : List ℕ → Kind → ElementWalk → ℕ → Subelements → ElementWalk
 withElement s kind w end subs =
     if not (eqb (subs .refusal .number) 0) then refusedElements (subs .refusal .number) (subs .refusal .place)
     else record { refusal = noRefusal; at = end; count = w .count + 1; elements = set (w .elements) (w .count) (elementOf s kind (w .at) subs) }
 
 -- a whole element of the frame's own ID, which ends at end: "9, 5, 6, then its subelements"; of at most so many elements
-unfoldable pub ownRequestStep : ℕ → List ℕ → Kind → Elements → ℕ → Elements
+unfoldable pub ownRequestStep : ℕ → List ℕ → Kind → ElementWalk → ℕ → ElementWalk
 ownRequestStep most s kind w end =
     if leb most (w .count) then refusedElements tooManyElements (w .at)
     else if ltb (getD s (w .at + 1) 0) (leastBody kind) then refusedElements shortElement (w .at)
@@ -112,15 +112,15 @@ ownRequestStep most s kind w end =
     else withElement s kind w end (subelementsOf s kind (w .at) end)
 
 -- the element at w .at: "Element header or body passes the end" (4); "In each frame only its own element ID counts"
-unfoldable pub elementStep : ℕ → List ℕ → Kind → Elements → Elements
+unfoldable pub elementStep : ℕ → List ℕ → Kind → ElementWalk → ElementWalk
 elementStep most s kind w =
     if eqb (pieceEnd s (w .at) (length s)) 0 then refusedElements elementPastEnd (w .at)
     else if not (eqb (getD s (w .at) 0) (requestId kind)) then passed w (pieceEnd s (w .at) (length s))
     else ownRequestStep most s kind w (pieceEnd s (w .at) (length s))
 
-abbrev pub moreElements : List ℕ → Elements → Bool
+abbrev pub moreElements : List ℕ → ElementWalk → Bool
 moreElements s w = eqb (w .refusal .number) 0 && ltb (w .at) (length s)
 
 -- "then elements from the front": those behind the three octets of the header; the first refusal stops
-unfoldable pub walkElements : ℕ → List ℕ → Kind → Elements
+unfoldable pub walkElements : ℕ → List ℕ → Kind → ElementWalk
 walkElements most s kind = repeatWhile (length s) (moreElements s) (elementStep most s kind) (started noRefusal 3)

@@ -12,7 +12,7 @@ use Rattle.octets.specs.Refusals.{refused, noRefusal, badFrameLength, badHeader
 use Rattle.octets.specs.Numbers.{requestAction}
 use Rattle.octets.specs.Frames.{frameKind, frameCause}
 use Rattle.requests.specs.declared.Request.{Request}
-use Rattle.requests.specs.Elements.{blankElements, Elements, walkElements}
+use Rattle.requests.specs.Elements.{blankElements, ElementWalk, walkElements}
 
 -- the causes of the table that speak of a request frame
 abbrev pub requestCauses : List ℕ
@@ -29,7 +29,7 @@ lacksElement Event count = false
 lacksElement Diagnostic count = eqb count 0
 
 -- the walk's refusal, or 10, or the request
-unfoldable pub requestOf : Kind → ℕ → Elements → Request
+unfoldable pub requestOf : Kind → ℕ → ElementWalk → Request
 requestOf kind dialog w =
     if not (eqb (w .refusal .number) 0) then refusedRequest (w .refusal .number) (w .refusal .place)
     else if lacksElement kind (w .count) then refusedRequest noElement 0

@@ -8,7 +8,7 @@ use lib.Seq.{drop-drop, length-take-le, take-at, take-suc, take-all, take-take}
 use native.Mathlib.Numerals.{add-one}
 use native.Mathlib.Nat.{zero-add, mul-le-mul-left}
 use native.Mathlib.Omega.{arith}
-use Rattle.laws.specs.Buffers.{onto, pieces, Written, wrote, putAt}
+use Rattle.laws.specs.Buffers.{onto, pieces, WrittenBuffer, wrote, putAt}
 use Rattle.laws.proofs.Buffers.{put-at-fits, Putting, putting-at, putting-length, putting-done, putting-end}
 use Rattle.laws.proofs.Pieces.{pieces-snoc}
 use Rattle.texts.specs.Text.{Puts, written, Within}
@@ -37,7 +37,7 @@ module _ (o s : List ℕ) (at : ℕ) (fits : at + length o ≤ length s) where
       rw (en, ey) (sym (put-at-fits o at s fits))
 
   put-answer : (n : ℕ) (y : List ℕ) → wrote n y ≡ putAt o at s → n ≡ at + length o
-  put-answer n y e = ap (λ (w : Written). w .answer) (e ∙ put-at-fits o at s fits)
+  put-answer n y e = ap (λ (w : WrittenBuffer). w .answer) (e ∙ put-at-fits o at s fits)
 
   put-length : (n : ℕ) (y : List ℕ) → wrote n y ≡ putAt o at s → length y ≡ length s
   put-length n y e = putting-length (putting-at putting-from o [] (sym (append-nil o)) n y e)
@@ -116,5 +116,5 @@ whole {o} {s} {y} {n} p room =
 -- the first octets, as many as the answer says, are then the text; put elsewhere, all or nothing, they are that text there
 pub told : (o s y b z : List ℕ) (n at m most : ℕ) → wrote n y ≡ written o s → n ≤ most → wrote m z ≡ putAt (take n y) at b → (wrote m z ≡ putAt o at b) × (length o ≤ most)
 told o s y b z n at m most e few does =
-    let same : take n y ≡ o = ap (λ (w : Written). take (w .answer) (w .octets)) e ∙ take-at o (drop (length o) s) (length o) refl in
-    (does ∙ ap (λ (x : List ℕ). putAt x at b) same, omega (arith, ap (λ (w : Written). w .answer) e))
+    let same : take n y ≡ o = ap (λ (w : WrittenBuffer). take (w .answer) (w .octets)) e ∙ take-at o (drop (length o) s) (length o) refl in
+    (does ∙ ap (λ (x : List ℕ). putAt x at b) same, omega (arith, ap (λ (w : WrittenBuffer). w .answer) e))

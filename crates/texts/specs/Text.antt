@@ -9,7 +9,7 @@ use mathlib.Core.List.{List, [], _∷_, _++_}
 use lib.Dec.{leb, ltb, eqb}
 use lib.ListN.{length, take}
 use Rattle.laws.specs.Choice.{if_then_else_}
-use Rattle.laws.specs.Buffers.{onto, pieces, Written, wrote, putAt}
+use Rattle.laws.specs.Buffers.{onto, pieces, WrittenBuffer, wrote, putAt}
 use Rattle.octets.specs.declared.refusals.Refusal.{Refusal}
 
 -- the octets of a text
@@ -78,7 +78,7 @@ pub record Puts (most : ℕ) (o : List ℕ) (at : ℕ) (s : List ℕ) (n : ℕ) 
   pub does : at + length o ≤ length s → wrote n y ≡ putAt o at s
 
 -- a text at the front of a buffer that has room for every such text, answered by its length
-abbrev pub written : List ℕ → List ℕ → Written
+abbrev pub written : List ℕ → List ℕ → WrittenBuffer
 written o s = wrote (length o) (onto o s)
 
 -- how long it is at most, and that it lies within the buffer. The last part follows; with it a program that lends the text on needs no proof file

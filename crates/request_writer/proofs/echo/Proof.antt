@@ -6,7 +6,7 @@ use lib.ListN.{length, replicate}
 use lib.Seq.{length-take-le}
 use Rattle.requests.specs.Elements.{elementCapacity}
 use Rattle.laws.proofs.Arrays.{length-mapped}
-use Rattle.request_writer.specs.Writer.{Outcome}
+use Rattle.request_writer.specs.Writer.{WriteOutcome}
 use Rattle.request_writer.proofs.Shapes.{shaped}
 use Rattle.request_writer.proofs.RoundTrip.{answer-bounded, echo-read}
 use borrow.Author.Needs.{needs}
@@ -25,7 +25,7 @@ array-share-prefix-buf c =
     let shapes = shaped (a .elements) _ (c .before .before .before .good .1 .1 .0 .1 .1) in
     let eight : length (a .elements) ≡ elementCapacity = search (needs, length-mapped) in
     let long : length (c .before .write-request .last .1 .1 .1 .1 .0) ≡ 267 = search needs in
-    omega (arith, long, answer-bounded (a .kind) (a .dialog) (a .elements) (a .count) shapes eight 267 .most, ap (λ (o : Outcome). o .answer .length) (c .before .write-request .ensures))
+    omega (arith, long, answer-bounded (a .kind) (a .dialog) (a .elements) (a .count) shapes eight 267 .most, ap (λ (o : WriteOutcome). o .answer .length) (c .before .write-request .ensures))
 
 slice-aggregate-read-request : tie.Need-slice-aggregate-read-request
 slice-aggregate-read-request c =
@@ -33,7 +33,7 @@ slice-aggregate-read-request c =
     let shapes = shaped (a .elements) _ (c .before .before .before .before .good .1 .1 .0 .1 .1) in
     let eight : length (a .elements) ≡ elementCapacity = search (needs, length-mapped) in
     let long : length (c .before .before .write-request .last .1 .1 .1 .1 .0) ≡ 267 = search needs in
-    sym (length-take-le _ _ (omega (arith, long, answer-bounded (a .kind) (a .dialog) (a .elements) (a .count) shapes eight 267 .most, ap (λ (o : Outcome). o .answer .length) (c .before .before .write-request .ensures))))
+    sym (length-take-le _ _ (omega (arith, long, answer-bounded (a .kind) (a .dialog) (a .elements) (a .count) shapes eight 267 .most, ap (λ (o : WriteOutcome). o .answer .length) (c .before .before .write-request .ensures))))
 
 read-request-requires : tie.Need-read-request-requires
 read-request-requires c κs = search needs

@@ -5,7 +5,7 @@ use mathlib.Core.Path.{_≡_, ap, _∙_}
 use mathlib.Core.List.{[], _∷_}
 use native.Mathlib.Omega.{arith}
 use lib.ListN.{length}
-use Rattle.laws.specs.Buffers.{Written}
+use Rattle.laws.specs.Buffers.{WrittenBuffer}
 use Rattle.laws.proofs.Buffers.{put-at-fits, length-onto}
 use Rattle.octets.specs.Numbers.{category, longestFrame, reportAction}
 use Rattle.model.specs.Stations.{room}
@@ -33,7 +33,7 @@ returns c =
     let start = c .before .before .before .before .before .before .before .before in
     let s = start .args .buf .now in
     let header = category ∷ reportAction (start .args .kind) ∷ start .args .dialog ∷ [] in
-    let put = ap (λ (w : Written). w .octets) (rw (c .before .before .before .before .before .before .report-action .ensures) at (c .before .before .before .put .ensures) ∙ put-at-fits header 0 s (omega (arith, start .pre))) in
+    let put = ap (λ (w : WrittenBuffer). w .octets) (rw (c .before .before .before .before .before .before .report-action .ensures) at (c .before .before .before .put .ensures) ∙ put-at-fits header 0 s (omega (arith, start .pre))) in
     let ends : c .least .result ≡ room s = c .least .ensures ∙ ap (λ (k : ℕ). min k longestFrame) (ap length put ∙ length-onto header s (omega (arith, start .pre))) in
     record { fits = omega (arith, ends, start .pre); ends = ends; octets = put }
 
