@@ -2,20 +2,20 @@
 -- Assumes nothing.
 use Prim.Native.Nat.{ℕ, zero, suc}
 use mathlib.Core.Path.{_≡_, refl}
-use mathlib.Core.List.{List, [], _∷_, _++_}
-use lib.ListN.{length, take}
+use mathlib.Core.List.{List, [], _∷_}
 use Rattle.laws.specs.Choice.{if_then_else_}
 use Rattle.laws.specs.Walk.{repeatWhile}
 use Rattle.octets.specs.declared.numbers.Kind.{Kind}
 use Rattle.octets.specs.declared.numbers.Kind.the-variants.{Event, Diagnostic}
 use Rattle.octets.specs.Fields.{octetsAt}
 use Rattle.octets.specs.Addresses.{same}
+use Rattle.octets.specs.Frames.{frameKind, frameCause}
 use Rattle.octets.specs.Elements.{pieceEnd}
-use Rattle.octets.specs.Times.{inRange, goodTime}
+use Rattle.octets.specs.Times.{inRange, goodDate, goodClock, goodTime}
 use Rattle.subelements.specs.Subelements.{wholeStep, subelementStep as Subelements·step, walk}
 use Rattle.requests.specs.Elements.{subelementsOf, badToken, withElement, ownRequestStep, elementStep, walkElements}
 use Rattle.requests.specs.Internal.{subelementsStart}
-use Rattle.requests.specs.Requests.{requestOf, frameKind, headerCause, readRequest}
+use Rattle.requests.specs.Requests.{requestOf, headerCause, readRequest}
 use Rattle.events.specs.Transitions.{bodyOf, entryOf}
 use Rattle.events.specs.Log.{pushed}
 use Rattle.events.specs.Choice.{firstOf, nextPlace}
@@ -64,7 +64,7 @@ after kind n = step standard gate (report 13 console kind (zeros 260)) .answer �
 
 -- an event of 35 octets, and the identity behind five
 answered : after Event 38 × after Diagnostic 25
-unfolding zeros identity console slowTransition calls if_then_else_ repeatWhile same octetsAt pieceEnd inRange goodTime wholeStep Subelements·step walk subelementsOf subelementsStart any badToken withElement ownRequestStep elementStep walkElements requestOf frameKind headerCause readRequest pushed bodyOf entryOf firstOf nextPlace asked transitionMeets meetsAt meets stands passRow goodFrom goodIdentity reportElement eventElement repeated badList newRequester find put replace fillWith fill nextFrame eventTreatment openEvents takeEvents nextEventPlace gave without reportFront treatFront nextFrom nextEvent unlessDone diagnosticTreatment isLate onTime unlessOver dropLate diagnosticsOf takeDiagnostics diagnosticReport nextDiagnostic setup tickRequester tick logRequester logEntry logCall withRequester serveFound serveListed takeKind takeRequest requestCall frameCall giveEvents giveDiagnostics ifOutstanding octetsOf giveKind giveReport reportCall act readingOf step run
+unfolding zeros identity console slowTransition calls if_then_else_ repeatWhile same octetsAt pieceEnd inRange goodDate goodClock goodTime wholeStep Subelements·step walk subelementsOf subelementsStart any badToken withElement ownRequestStep elementStep walkElements frameKind frameCause requestOf headerCause readRequest pushed bodyOf entryOf firstOf nextPlace asked transitionMeets meetsAt meets stands passRow goodFrom goodIdentity reportElement eventElement repeated badList newRequester find put replace fillWith fill nextFrame eventTreatment openEvents takeEvents nextEventPlace gave without reportFront treatFront nextFrom nextEvent unlessDone diagnosticTreatment isLate onTime unlessOver dropLate diagnosticsOf takeDiagnostics diagnosticReport nextDiagnostic setup tickRequester tick logRequester logEntry logCall withRequester serveFound serveListed takeKind takeRequest requestCall frameCall giveEvents giveDiagnostics ifOutstanding octetsOf giveKind giveReport reportCall act readingOf step run
 answered = (refl, refl)
 
 -- its one logged transition has its lengths, so both are read back

@@ -13,7 +13,7 @@ use Rattle.station.specs.Views.{view}
 use Rattle.subelements.specs.declared.Condition.{Condition as Subelements·Condition}
 use Rattle.requests.specs.declared.Element.{Element as Requests·Element}
 use Rattle.request_writer.specs.declared.Written.{Written}
-use Rattle.request_writer.specs.Writer.{WriteOutcome as Writer·Outcome}
+use Rattle.request_writer.specs.Writer.{WriteOutcome}
 use Rattle.report_reader.specs.declared.Report.{Report as Reader·Report}
 use Rattle.report_reader.specs.declared.Element.{Element as Reader·Element}
 use Rattle.report_reader.specs.declared.Step.{Step as Reader·Step}
@@ -93,7 +93,7 @@ pub record Write : Type 0 where
 abbrev pub write : Reply → List ℕ → Write
 write reply octets = record { reply = reply; octets = octets }
 
-abbrev pub numberedWrite : Writer·Outcome → Write
+abbrev pub numberedWrite : WriteOutcome → Write
 numberedWrite o = write (replyWritten (o .answer)) (o .octets)
 
 -- ---- the report reader

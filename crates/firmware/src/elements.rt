@@ -12,7 +12,7 @@ ghost use lib.ListN.{take};
 ghost use Rattle.firmware.specs.Numbers.{flag, conditionOf, elementFrom, numberedElement};
 
 // The number of a flag.
-pub fn flag_number(set: bool) -> u8
+pub(crate) fn flag_number(set: bool) -> u8
     ensures { λ r. ⌜ r ≡ flag set ⌝ }
 {
     if set { 1 } else { 0 }
@@ -55,7 +55,7 @@ fn element_of(e: RequestElement) -> requests::Element
 }
 
 // The first count elements of a request for the writer, which looks at no other; those are blank.
-pub fn elements_of(
+pub(crate) fn elements_of(
     es: [RequestElement; ELEMENT_CAPACITY],
     count: usize,
 ) -> [requests::Element; ELEMENT_CAPACITY]
@@ -72,7 +72,7 @@ pub fn elements_of(
 }
 
 // The element of a report for C.
-pub fn report_element(e: Element) -> ReportElement
+pub(crate) fn report_element(e: Element) -> ReportElement
     ensures { λ r. ⌜ r ≡ numberedElement e ⌝ }
 {
     let event = e.event;

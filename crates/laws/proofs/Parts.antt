@@ -27,7 +27,7 @@ unfoldable pub spelt : ℕ → ℕ → List ℕ → ℕ → List ℕ
 spelt zero k s at = []
 spelt (suc n) k s at = getD s (at + k) 0 ∷ spelt n (k + 1) s at
 
-pub part-spelt : (n k : ℕ) (s : List ℕ) (at : ℕ) → at + k + n ≤ length s → take n (drop (at + k) s) ≡ spelt n k s at
+part-spelt : (n k : ℕ) (s : List ℕ) (at : ℕ) → at + k + n ≤ length s → take n (drop (at + k) s) ≡ spelt n k s at
 unfolding spelt
 part-spelt zero k s at h = refl
 part-spelt (suc n) k s at h =

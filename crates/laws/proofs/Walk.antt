@@ -81,15 +81,3 @@ and-second false b e = never e
 -- what every step keeps, the walk keeps
 pub keeps : {A : Type 0} (P : A → Type 0) (more : A → Bool) (step : A → A) → ((w : A) → P w → P (step w)) → (k : ℕ) (w : A) → P w → P (repeatWhile k more step w)
 keeps P more step f = keeps-while P more step (λ w _. f w)
-
--- a walk that is seen through a view
-pub view-walk : {A B : Type 0} (v : A → B) (goA : A → Bool) (goB : B → Bool) (f : A → A) (g : B → B)
-    → ((w : A) → goB (v w) ≡ goA w) → ((w : A) → g (v w) ≡ v (f w)) → (k : ℕ) (w : A) → repeatWhile k goB g (v w) ≡ v (repeatWhile k goA f w)
-unfolding repeatWhile
-view-walk v goA goB f g p q zero w = refl
-view-walk v goA goB f g p q (suc k) w = at-test (goA w) (p w) (view-walk v goA goB f g p q k (f w))
-  where
-    at-test : (b : Bool) → goB (v w) ≡ b → repeatWhile k goB g (v (f w)) ≡ v (repeatWhile k goA f (f w))
-        → elim (goB (v w)) [ true ↦ repeatWhile k goB g (g (v w)) | false ↦ v w ] ≡ v (elim b [ true ↦ repeatWhile k goA f (f w) | false ↦ w ])
-    at-test true e r = rw (e, q w) r
-    at-test false e r = rw e

@@ -1,4 +1,5 @@
 pub mod FieldLaws
 pub mod PlaceLaws
 pub mod AddressLaws
+pub mod FrameLaws
 pub mod ElementLaws

@@ -9,9 +9,10 @@ use native.Mathlib.Nat.{add-zero}
 use native.Mathlib.Omega.{arith}
 use lib.Dec.{leb}
 use lib.ListN.{length, getD, take, drop, set, length-take, length-drop, drop-of-length-le, List·getD-eq-default}
-use lib.Seq.{drop-cons, take-length}
+use lib.Seq.{drop-cons, take-length, getD-take, getD-drop}
 use borrow.Author.Tests.{leb-true, leb-false}
 use Rattle.laws.proofs.Arrays.{fill-next}
+use Rattle.laws.proofs.Parts.{stands-first, stands-behind}
 use Rattle.octets.specs.Fields.{octetsAt}
 
 module _ (s : List ℕ) where
@@ -27,6 +28,29 @@ module _ (s : List ℕ) where
   octets-part (suc n) at h =
       ap {B = List ℕ} (λ r. getD s at 0 ∷ r) (octets-part n (at + 1) (omega arith) ∙ ap (λ (k : ℕ). take n (drop k s)) (add-one at))
       ∙ sym (ap (take (suc n)) (drop-cons s at 0 (omega arith)))
+
+  all-stand : (o r : List ℕ) (at : ℕ) → drop at s ≡ o ++ r → octetsAt s at (length o) ≡ o
+  unfolding octetsAt
+  all-stand [] r at h = refl
+  all-stand (x ∷ o) r at h =
+      let first : getD s at 0 ≡ x = stands-first s at (x ∷ o) r h 0 in
+      let rest : octetsAt s (at + 1) (length o) ≡ o = all-stand o r (at + 1) (stands-behind s at (x ∷ []) (o ++ r) h (at + 1) refl) in
+      rw (first, rest)
+
+  -- those that stand there
+  pub octets-stand : (at n : ℕ) (o r : List ℕ) → length o ≡ n → drop at s ≡ o ++ r → octetsAt s at n ≡ o
+  octets-stand at n o r e h = ap (octetsAt s at) (sym e) ∙ all-stand o r at h
+
+  -- those of a part are those of the whole
+  pub octet-within : (m at k : ℕ) → k < m → getD (take m (drop at s)) k 0 ≡ getD s (at + k) 0
+  octet-within m at k h = getD-take m (drop at s) k 0 h ∙ getD-drop at s k 0
+
+  pub octets-within : (m at n k : ℕ) → k + n ≤ m → octetsAt (take m (drop at s)) k n ≡ octetsAt s (at + k) n
+  unfolding octetsAt
+  octets-within m at zero k h = refl
+  octets-within m at (suc n) k h =
+      let e : at + (k + 1) ≡ at + k + 1 = omega arith in
+      rw (octet-within m at k (omega arith), octets-within m at n (k + 1) (omega arith), e)
 
   -- past the end every octet is 0, wherever
   pub octets-past : (n a b : ℕ) → length s ≤ a → length s ≤ b → octetsAt s a n ≡ octetsAt s b n

@@ -1,11 +1,13 @@
 // The octets that every layer reads and writes (document 01, "Frames and elements" and "Why a call
-// is turned away"): numbers, refusals, fields, addresses, elements' edges, times, and buffers.
+// is turned away"): numbers, refusals, fields, addresses, frames' heads, elements' edges, times, and
+// buffers.
 mod addresses;
 mod buffers;
 pub mod causes;
 mod counts;
 mod elements;
 mod fields;
+mod frames;
 pub mod numbers;
 mod refusals;
 mod times;
@@ -24,6 +26,8 @@ pub use fields::pair;
 pub use fields::pair_at;
 pub use fields::read_at;
 pub use fields::size;
+pub use frames::frame_cause;
+pub use frames::frame_kind;
 pub use numbers::Kind;
 pub use numbers::kind_of;
 pub use refusals::Refusal;

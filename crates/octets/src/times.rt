@@ -1,6 +1,6 @@
 // Times of nine octets, and their rule (cause 14).
 ghost use mathlib.Core.Path.{_≡_};
-ghost use Rattle.octets.specs.Times.{inRange, goodTime, timeAt};
+ghost use Rattle.octets.specs.Times.{inRange, goodDate, goodClock, goodTime, timeAt};
 use crate::fields::pair;
 use crate::fields::read_at;
 
@@ -17,6 +17,27 @@ fn in_range(least: u16, most: u16, ones: u16, x: u16) -> bool
     x <= most
 }
 
+fn good_date(day: u8, month: u8) -> bool
+    ensures { λ r. ⌜ r ≡ goodDate day month ⌝ }
+{
+    if !in_range(1, 31, 255, day as u16) {
+        return false;
+    }
+    in_range(1, 12, 255, month as u16)
+}
+
+fn good_clock(second: u8, minute: u8, hour: u8) -> bool
+    ensures { λ r. ⌜ r ≡ goodClock second minute hour ⌝ }
+{
+    if !in_range(0, 59, 255, second as u16) {
+        return false;
+    }
+    if !in_range(0, 59, 255, minute as u16) {
+        return false;
+    }
+    in_range(0, 23, 255, hour as u16)
+}
+
 // Is each field of a time in its range, or unknown?
 pub fn good_time(t: [u8; 9]) -> bool
     ensures { λ r. ⌜ r ≡ goodTime t ⌝ }
@@ -24,19 +45,10 @@ pub fn good_time(t: [u8; 9]) -> bool
     if !in_range(0, 999, 65535, pair(t[0], t[1])) {
         return false;
     }
-    if !in_range(0, 59, 255, t[2] as u16) {
+    if !good_clock(t[2], t[3], t[4]) {
         return false;
     }
-    if !in_range(0, 59, 255, t[3] as u16) {
-        return false;
-    }
-    if !in_range(0, 23, 255, t[4] as u16) {
-        return false;
-    }
-    if !in_range(1, 31, 255, t[5] as u16) {
-        return false;
-    }
-    in_range(1, 12, 255, t[6] as u16)
+    good_date(t[5], t[6])
 }
 
 // The time at a position, 0 past the end.

@@ -1,5 +1,6 @@
 // Replays a recorded list of calls from standard input, and prints each answer. The format of the
-// records and the text of each line are those of traces.
+// records and the text of each line are those of traces; which calls they are, and the station after
+// them, are the contracts here.
 use libc::STDIN_FILENO;
 use libc::STDOUT_FILENO;
 use octets::least;
@@ -15,6 +16,7 @@ use traces::BUFFER;
 use traces::BUFFER_LINE;
 use traces::LINE;
 use traces::ReportCall;
+use traces::Span;
 use traces::WriterCall;
 use traces::addresses_at;
 use traces::elements_at;
@@ -30,6 +32,11 @@ use traces::report_call_at;
 use traces::setup_at;
 use traces::transition_at;
 use traces::writer_call_at;
+ghost use mathlib.Core.Path.{_≡_};
+ghost use Rattle.model.specs.Model.{standard, report as Model·report};
+ghost use Rattle.model.specs.Stations.{step};
+ghost use Rattle.station.specs.Views.{view};
+ghost use Rattle.replay.specs.Replay.{spanned, setupAt, clockAt, loggingAt, frameAt, reportAt, roamAt, changeAt, stationAfter, replayed, replayTrace};
 
 // A trace has at most so many octets.
 const LONGEST: usize = 262144;
@@ -60,54 +67,68 @@ fn print_report(destination: [u8; 6], frame: &[u8]) {
 }
 
 // The answer of an outcome printed, and its station.
-fn after(outcome: Outcome) -> Station {
+fn after(outcome: Outcome) -> Station
+    ensures { λ r. ⌜ r ≡ outcome .station ⌝ }
+{
     let answer = outcome.answer;
     print_answer(answer);
     outcome.station
 }
 
-// The octets of the input between two positions.
-fn part(s: &[u8], from: usize, to: usize) -> &[u8] {
-    if to < from {
-        return &s[..0];
-    }
-    if s.len() < to {
-        return &s[..0];
-    }
+// The octets of a span, as far as the input has them.
+fn part(s: &[u8], span: Span) -> &[u8]
+    ensures { λ r. ⌜ now r ≡ spanned (now (s .entry)) span ⌝ }
+{
+    let to = least(span.to, s.len());
+    let from = least(span.from, to);
     &s[from..to]
 }
 
-fn set_up(s: &[u8], at: usize) -> Station {
+fn set_up(s: &[u8], at: usize) -> Station
+    ensures { λ r. ⌜ view r ≡ setupAt (now (s .entry)) at .station ⌝ }
+{
     let c = setup_at(s, at);
+    let identity = c.identity;
     let list = addresses_at(s, c.list);
     let n = c.count as usize;
-    after(Station::setup(part(s, c.from, c.to), &list[..n]))
+    after(Station::setup(part(s, identity), &list[..n]))
 }
 
-fn tick(g: Station, s: &[u8], at: usize) -> Station {
+fn tick(g: Station, s: &[u8], at: usize) -> Station
+    ensures { λ r. ⌜ view r ≡ step standard (view g) (clockAt (now (s .entry)) at) .station ⌝ }
+{
     after(g.tick(reading_at(s, at)))
 }
 
-fn log_transition(g: Station, s: &[u8], at: usize) -> Station {
+fn log_transition(g: Station, s: &[u8], at: usize) -> Station
+    ensures { λ r. ⌜ view r ≡ step standard (view g) (loggingAt (now (s .entry)) at) .station ⌝ }
+{
     after(g.log_transition(reading_at(s, at), transition_at(s, at)))
 }
 
-fn take_frame(g: Station, s: &[u8], at: usize) -> Station {
+fn take_frame(g: Station, s: &[u8], at: usize) -> Station
+    ensures { λ r. ⌜ view r ≡ step standard (view g) (frameAt (now (s .entry)) at) .station ⌝ }
+{
     let c = frame_call_at(s, at);
     let reading = c.reading;
     let destination = c.destination;
     let source = c.source;
-    after(g.take_frame(reading, destination, source, part(s, c.from, c.to)))
+    let frame = c.frame;
+    after(g.take_frame(reading, destination, source, part(s, frame)))
 }
 
-fn report_into(g: Station, c: ReportCall, buf: &mut [u8]) -> Station {
+fn report_into(g: Station, c: ReportCall, buf: &mut [u8]) -> Station
+    ensures { λ r. ⌜ view r ≡ step standard (view g) (Model·report (c .reading .0) (c .requester) (c .kind) (now (buf .entry))) .station ⌝ }
+{
     let reading = c.reading;
     let requester = c.requester;
     let kind = c.kind;
     after(g.report(reading, requester, kind, buf))
 }
 
-fn report(g: Station, s: &[u8], at: usize) -> Station {
+fn report(g: Station, s: &[u8], at: usize) -> Station
+    ensures { λ r. ⌜ view r ≡ step standard (view g) (reportAt (now (s .entry)) at) .station ⌝ }
+{
     let c = report_call_at(s, at);
     let fill = c.fill;
     let n = least(c.length as usize, BUFFER);
@@ -117,7 +138,9 @@ fn report(g: Station, s: &[u8], at: usize) -> Station {
     station
 }
 
-fn roam(g: Station, s: &[u8], at: usize) -> Station {
+fn roam(g: Station, s: &[u8], at: usize) -> Station
+    ensures { λ r. ⌜ view r ≡ step standard (view g) (roamAt (now (s .entry)) at) .station ⌝ }
+{
     let c = move_at(s, at);
     let reading = c.reading;
     let list = addresses_at(s, c.list);
@@ -125,7 +148,9 @@ fn roam(g: Station, s: &[u8], at: usize) -> Station {
     after(g.roam(reading, &list[..n]))
 }
 
-fn change_network(g: Station, s: &[u8], at: usize) -> Station {
+fn change_network(g: Station, s: &[u8], at: usize) -> Station
+    ensures { λ r. ⌜ view r ≡ step standard (view g) (changeAt (now (s .entry)) at) .station ⌝ }
+{
     let c = move_at(s, at);
     let reading = c.reading;
     let list = addresses_at(s, c.list);
@@ -161,11 +186,14 @@ fn write(s: &[u8], at: usize) {
 fn read(s: &[u8], at: usize) {
     let c = reader_call_at(s, at);
     let destination = c.destination;
-    print_report(destination, part(s, c.from, c.to));
+    let frame = c.frame;
+    print_report(destination, part(s, frame));
 }
 
 // The call of the record at a position; the station after it.
-fn call(g: Station, s: &[u8], at: usize) -> Station {
+fn call(g: Station, s: &[u8], at: usize) -> Station
+    ensures { λ r. ⌜ view r ≡ stationAfter (now (s .entry)) at (view g) ⌝ }
+{
     match octet(s, at) {
         0 => set_up(s, at),
         1 => tick(g, s, at),
@@ -185,28 +213,42 @@ fn call(g: Station, s: &[u8], at: usize) -> Station {
     }
 }
 
-// The records from the front, while they are whole; how far they reach.
-fn replay(s: &[u8]) -> usize {
+// How far the records of a trace reach, and the station after them.
+struct Replayed {
+    reached: usize,
+    station: Station,
+}
+
+// The records from the front, while they are whole.
+fn replay(s: &[u8]) -> Replayed
+    ensures { λ r. ⌜ replayed (r .reached) (view (r .station)) ≡ replayTrace (now (s .entry)) ⌝ }
+{
     let nobody = Station::setup(&[], &[]);
     let mut g = nobody.station;
     let mut at: usize = 0;
     while at < s.len() {
         let end = record_end(s, at);
         if end <= at {
-            return at;
+            return Replayed {
+                reached: at,
+                station: g,
+            };
         }
         g = call(g, s, at);
         at = end;
     }
-    at
+    Replayed {
+        reached: at,
+        station: g,
+    }
 }
 
 // The records of an input; what is left of it is refused.
 fn run(input: &[u8]) {
     let end = least(input.len(), LONGEST);
-    let reached = replay(&input[..end]);
-    if reached < input.len() {
-        print_trace_refusal(reached);
+    let r = replay(&input[..end]);
+    if r.reached < input.len() {
+        print_trace_refusal(r.reached);
     }
 }
 

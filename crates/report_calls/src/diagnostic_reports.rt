@@ -17,7 +17,7 @@ ghost use Rattle.requesters.specs.Views.{left};
 ghost use Rattle.report_calls.specs.Internal.{isIdentity, FilledAs};
 
 // So many octets were written, whether no element is left, and the first one that is.
-pub struct Answered {
+pub(crate) struct Answered {
     pub wrote: usize,
     pub done: bool,
     pub first: usize,

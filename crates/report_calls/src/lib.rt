@@ -3,8 +3,4 @@ mod diagnostic_reports;
 mod event_reports;
 mod report_frames;
 
-pub use diagnostic_reports::Answered;
-pub use event_reports::Filled;
-pub use event_reports::Next;
-pub use event_reports::Turn;
 pub use report_frames::give_report;

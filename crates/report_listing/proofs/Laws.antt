@@ -7,24 +7,26 @@ use mathlib.Core.List.{List, [], _∷_, _++_, append-nil}
 use native.Mathlib.Omega.{arith}
 use lib.ListN.{length, length-append}
 use lib.Dec.{eqb}
-use borrow.Author.Tests.{eq-eqb, ne-eqb, eqb-true, eqb-false, ltb-false, not-true, not-false}
+use borrow.Author.Tests.{eq-eqb, ne-eqb, eqb-true, eqb-false, not-true, not-false}
 use Rattle.laws.specs.Choice.{if_then_else_}
 use Rattle.laws.specs.Buffers.{pieces, wrote, putAt}
 use Rattle.laws.proofs.Choice.{either}
 use Rattle.laws.proofs.Pieces.{pieces-snoc}
 use Rattle.laws.proofs.Walk.{Rest, start, done, last, again, go-on, stop-refused, stop-end}
 use Rattle.octets.specs.declared.numbers.Kind.{Kind}
-use Rattle.octets.specs.declared.numbers.Kind.the-variants.{Event, Diagnostic}
 use Rattle.octets.specs.Refusals.{noRefusal}
+use Rattle.octets.specs.Numbers.{reportAction, longestFrame}
+use Rattle.octets.specs.Frames.{frameCause}
+use Rattle.octets.proofs.FrameLaws.{head-length}
 use Rattle.texts.specs.Text.{text, decimal, Puts}
 use Rattle.texts.proofs.NumberLaws.{decimal-length}
 use Rattle.texts.proofs.PutLaws.{one, at-most, nothing, both}
 use Rattle.report_reader.specs.declared.Step.{Step}
 use Rattle.report_reader.specs.declared.Report.{Report}
-use Rattle.report_reader.specs.Reader.{stepAt, readReport, reportOf, validate, validatedReport, ElementRead, elementReadAt, Reading, reading, gathered, unread, readStep, readElements}
-use Rattle.report_reader.proofs.Laws.{Forward, goes-on, Extent, found-extent, agrees}
+use Rattle.report_reader.specs.Reader.{stepAt, reportOf, reportKind, readReport, ElementRead, elementReadAt, Reading, reading, gathered, unread, readStep, readElements}
+use Rattle.report_reader.proofs.Laws.{Forward, goes-on, Extent, found-extent}
 use Rattle.report_listing.specs.Listing.{timeField, reportElementLine, reportElementLines}
-use Rattle.report_listing.specs.Internal.{tailMost, stepLine, stepMost}
+use Rattle.report_listing.specs.Internal.{unreadMost, tailMost, lineMost, linesMost, stepLine, stepMost}
 
 -- ---- a time field
 
@@ -40,14 +42,14 @@ module _ (front : List ℕ) (digits ones k at n : ℕ) (s y : List ℕ) where
 
 -- ---- how long a line is at most: 14 octets for each octet that its element takes of the frame
 
-pub tail-most : (b : Bool) → 26 ≤ tailMost b
+pub tail-most : (b : Bool) → unreadMost ≤ tailMost b
 tail-most true = omega arith
 tail-most false = omega arith
 
-line-most : (cur : ℕ) (t : Step) → Extent cur t → 41 + tailMost (t .element .logged) + 1 ≤ 14 * (t .next .at - cur)
+line-most : (cur : ℕ) (t : Step) → Extent cur t → lineMost (t .element .logged) ≤ 14 * (t .next .at - cur)
 line-most cur t x = go (t .element .logged) (x .event)
   where
-    go : (b : Bool) → (b ≡ true → t .next .at ≡ cur + 35) → 41 + tailMost b + 1 ≤ 14 * (t .next .at - cur)
+    go : (b : Bool) → (b ≡ true → t .next .at ≡ cur + 35) → lineMost b ≤ 14 * (t .next .at - cur)
     go true f = omega (arith, f refl)
     go false f = omega (arith, x .least)
 
@@ -59,7 +61,7 @@ pub record Listed (s : List ℕ) (kind : Kind) (from : ℕ) (old buf : List ℕ)
   pub front : 3 ≤ cur
   pub within : cur - 3 ≤ length s - 3
   pub same : length buf ≡ length old
-  pub puts : Puts (14 * (cur - 3)) (reportElementLines kind es) from old at buf
+  pub puts : Puts (linesMost cur) (reportElementLines kind es) from old at buf
 
 pub listed-start : (s : List ℕ) (kind : Kind) (from : ℕ) (buf : List ℕ) → Listed s kind from buf buf from 3
 unfolding readElements pieces
@@ -73,10 +75,10 @@ listed-start s kind from buf = record {
 }
 
 module _ {s : List ℕ} {kind : Kind} {from : ℕ} {old buf : List ℕ} {at cur : ℕ} (l : Listed s kind from old buf at cur) (fine : readElements s kind .refusal .number ≡ 0) where
-  pub listed-end : length s ≤ cur → Puts (14 * (length s - 3)) (reportElementLines kind (readElements s kind .elements)) from old at buf
+  pub listed-end : length s ≤ cur → Puts (linesMost (length s)) (reportElementLines kind (readElements s kind .elements)) from old at buf
   listed-end end =
       let e : reading noRefusal cur (l .es) ≡ readElements s kind = done (l .rest) (stop-end 0 cur (length s) refl end) in
-      rw (← e) (at-most (14 * (length s - 3)) (omega (arith, l .within)) (l .puts))
+      rw (← e) (at-most (linesMost (length s)) (omega (arith, l .within)) (l .puts))
 
   module _ (inside : cur < length s) (t : Step) (is : t ≡ stepAt s kind cur) where
     goes : unread (length s) (reading noRefusal cur (l .es)) ≡ true
@@ -107,7 +109,7 @@ module _ {s : List ℕ} {kind : Kind} {from : ℕ} {old buf : List ℕ} {at cur 
             let x : ElementRead = elementReadAt s t in
             let e : reading noRefusal (t .next .at) (l .es ++ (x ∷ [])) ≡ readStep s kind (reading noRefusal cur (l .es)) = rw (← is, eq-eqb (t .refusal .number) 0 accepted, f) in
             let g = on in
-            let p : Puts (41 + tailMost (t .element .logged) + 1) (reportElementLine kind (t .element)) at buf n y = rw f at q in
+            let p : Puts (lineMost (t .element .logged)) (reportElementLine kind (t .element)) at buf n y = rw f at q in
             record {
               es = l .es ++ (x ∷ []);
               rest = again (length s - t .next .at) (l .rest) goes (omega (arith, g .on)) e;
@@ -115,7 +117,7 @@ module _ {s : List ℕ} {kind : Kind} {from : ℕ} {old buf : List ℕ} {at cur 
               within = omega (arith, g .within);
               same = keeps ∙ l .same;
               puts = rw (pieces-snoc (λ (r : ElementRead). reportElementLine kind (r .element)) 0 (l .es) x)
-                  (at-most (14 * (t .next .at - 3)) (omega (arith, g .on, l .front, line-most cur t (found-extent s kind cur t is f))) (both (l .puts) p));
+                  (at-most (linesMost (t .next .at)) (omega (arith, g .on, l .front, line-most cur t (found-extent s kind cur t is f))) (both (l .puts) p));
             }
         go false f =
             let e : reading noRefusal (t .next .at) (l .es) ≡ readStep s kind (reading noRefusal cur (l .es)) = rw (← is, eq-eqb (t .refusal .number) 0 accepted, f) in
@@ -127,34 +129,27 @@ module _ {s : List ℕ} {kind : Kind} {from : ℕ} {old buf : List ℕ} {at cur 
               front = omega (arith, g .on, l .front);
               within = omega (arith, g .within);
               same = keeps ∙ l .same;
-              puts = rw append-nil at (at-most (14 * (t .next .at - 3)) (omega (arith, g .on)) (both (l .puts) p));
+              puts = rw append-nil at (at-most (linesMost (t .next .at)) (omega (arith, g .on)) (both (l .puts) p));
             }
 
 -- ---- a frame that is not refused has at most 2,304 octets, and the cursor's walk over it is not refused either
 
 pub record Readable (s : List ℕ) (kind : Kind) : Type 0 where
-  pub few : length s ≤ 2304
+  pub few : length s ≤ longestFrame
   pub fine : readElements s kind .refusal .number ≡ 0
 
 abbrev IsReadable : List ℕ → Report → Type 0
 IsReadable s r = r .refusal .number ≡ 0 → Readable s (r .kind)
 
-validated-readable : (s : List ℕ) (kind : Kind) → length s ≤ 2304 → IsReadable s (validatedReport s kind)
-unfolding reportOf
-validated-readable s kind few =
-    either (IsReadable s) _ _ _ (λ p z. absurd (eqb-false (validate s kind .refusal .number) 0 (not-true _ p) z))
-    (λ p _. record { few = few; fine = rw (agrees s kind) at (eqb-true (validate s kind .refusal .number) 0 (not-false _ p)) })
-
 read-readable : (destination s : List ℕ) → IsReadable s (readReport destination s)
-unfolding readReport
+unfolding readReport reportOf
 read-readable destination s =
+    let kind : Kind = reportKind s in
     either (IsReadable s) _ _ _ (λ _ z. absurd (omega arith))
-    (λ _. either (IsReadable s) _ _ _ (λ _ z. absurd (omega arith))
-    (λ _. either (IsReadable s) _ _ _ (λ _ z. absurd (omega arith))
-    (λ p. let few : length s ≤ 2304 = ltb-false 2304 (length s) p in
-    either (IsReadable s) _ _ _ (λ _ z. absurd (omega arith))
-    (λ _. either (IsReadable s) _ _ _ (λ _. validated-readable s Event few)
-    (λ _. either (IsReadable s) _ _ _ (λ _. validated-readable s Diagnostic few) (λ _ z. absurd (omega arith)))))))
+    (λ _. either (IsReadable s) _ _ _ (λ p z. absurd (eqb-false (frameCause s (reportAction kind)) 0 (not-true _ p) z))
+    (λ p. let few = head-length s (reportAction kind) (eqb-true (frameCause s (reportAction kind)) 0 (not-false _ p)) in
+    either (IsReadable s) _ _ _ (λ q z. absurd (eqb-false (readElements s kind .refusal .number) 0 (not-true _ q) z))
+    (λ q _. record { few = few; fine = eqb-true (readElements s kind .refusal .number) 0 (not-false _ q) })))
 
 pub readable : (destination s : List ℕ) (r : Report) → r ≡ readReport destination s → IsReadable s r
 readable destination s r is = rw is (read-readable destination s)

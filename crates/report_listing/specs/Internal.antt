@@ -1,6 +1,6 @@
 -- Nobody has to believe this file: it has what the contracts of functions inside this crate speak of.
 -- Assumes nothing.
-use Prim.Native.Nat.{ℕ, _+_}
+use Prim.Native.Nat.{ℕ, _+_, _*_, _-_}
 use mathlib.Core.Bool.{Bool, true, false}
 use mathlib.Core.List.{List, []}
 use Rattle.laws.specs.Choice.{if_then_else_}
@@ -8,14 +8,34 @@ use Rattle.octets.specs.declared.numbers.Kind.{Kind}
 use Rattle.report_reader.specs.declared.Step.{Step}
 use Rattle.report_listing.specs.Listing.{reportElementLine}
 
--- how many octets the text behind an element's status has at most: a transition, or a number
-abbrev pub tailMost : Bool → ℕ
-tailMost true = 202
-tailMost false = 26
+-- ---- how many octets a text has at most
 
--- the line of what stands at a cursor, and how long it is at most
+-- a transition, and the number of octets that are kept unread
+abbrev pub eventMost : ℕ
+eventMost = 202
+
+abbrev pub unreadMost : ℕ
+unreadMost = 26
+
+-- what the line of an element has up to its status, behind it, and in all
+abbrev pub headMost : ℕ
+headMost = 41
+
+abbrev pub tailMost : Bool → ℕ
+tailMost true = eventMost
+tailMost false = unreadMost
+
+abbrev pub lineMost : Bool → ℕ
+lineMost logged = headMost + tailMost logged + 1
+
+-- the lines of the elements up to a position of the frame
+abbrev pub linesMost : ℕ → ℕ
+linesMost at = 14 * (at - 3)
+
+-- ---- the line of what stands at a cursor
+
 unfoldable pub stepLine : Kind → Step → List ℕ
 stepLine kind t = if t .found then reportElementLine kind (t .element) else []
 
 unfoldable pub stepMost : Step → ℕ
-stepMost t = if t .found then 41 + tailMost (t .element .logged) + 1 else 0
+stepMost t = if t .found then lineMost (t .element .logged) else 0

@@ -1,6 +1,6 @@
 -- The text that lists a report frame, as the program `report` prints it; every line ends in a line feed.
 -- Assumes nothing.
-use Prim.Native.Nat.{ℕ}
+use Prim.Native.Nat.{ℕ, _+_, _*_, _-_}
 use mathlib.Core.Bool.{not}
 use mathlib.Core.List.{List, [], _++_}
 use lib.ListN.{length, getD, drop}
@@ -9,11 +9,11 @@ use Rattle.laws.specs.Choice.{if_then_else_}
 use Rattle.laws.specs.Buffers.{pieces}
 use Rattle.octets.specs.declared.numbers.Kind.{Kind}
 use Rattle.octets.specs.declared.numbers.Kind.the-variants.{Event as EventKind, Diagnostic}
-use Rattle.octets.specs.Numbers.{reportAction, reportId, successful}
+use Rattle.octets.specs.Numbers.{reportAction, reportId, successful, longestFrame}
 use Rattle.octets.specs.Refusals.{refused, badFrameLength}
 use Rattle.octets.specs.Fields.{pairAt}
 use Rattle.octets.specs.Addresses.{addressAt}
-use Rattle.texts.specs.Text.{text, decimal, hexed, field, refusalLine}
+use Rattle.texts.specs.Text.{text, decimal, hexed, hexes, field, refusalLine, frameLine, elementHead}
 use Rattle.report_reader.specs.declared.Event.{Event}
 use Rattle.report_reader.specs.declared.Element.{Element}
 use Rattle.report_reader.specs.declared.Report.{Report}
@@ -25,22 +25,23 @@ use Rattle.report_reader.specs.Reader.{readReport, ElementRead, readElements}
 unfoldable pub timeField : List ℕ → ℕ → ℕ → ℕ → List ℕ
 timeField front digits ones n = front ++ (if eqb n ones then text "?" else decimal digits n)
 
--- ` time 2026-12-31`: the time has milliseconds, second, minute, hour, day, month, year
-unfoldable pub dateText : List ℕ → List ℕ
-dateText time = timeField (text " time ") 4 65535 (pairAt time 7) ++ timeField (text "-") 2 255 (getD time 6 0) ++ timeField (text "-") 2 255 (getD time 5 0)
+-- ` time 2026-12-31`
+unfoldable pub dateText : ℕ → ℕ → ℕ → List ℕ
+dateText year month day = timeField (text " time ") 4 65535 year ++ timeField (text "-") 2 255 month ++ timeField (text "-") 2 255 day
 
 -- ` 23:59:59.999`
-unfoldable pub clockText : List ℕ → List ℕ
-clockText time =
-    timeField (text " ") 2 255 (getD time 4 0) ++ timeField (text ":") 2 255 (getD time 3 0) ++ timeField (text ":") 2 255 (getD time 2 0) ++ timeField (text ".") 3 65535 (pairAt time 0)
+unfoldable pub clockText : ℕ → ℕ → ℕ → ℕ → List ℕ
+clockText hour minute second ms =
+    timeField (text " ") 2 255 hour ++ timeField (text ":") 2 255 minute ++ timeField (text ":") 2 255 second ++ timeField (text ".") 3 65535 ms
 
+-- a time has "milliseconds 2, second, minute, hour, day, month, year 2"
 unfoldable pub timeText : List ℕ → List ℕ
-timeText time = dateText time ++ clockText time
+timeText time =
+    dateText (pairAt time 7) (getD time 6 0) (getD time 5 0) ++ clockText (getD time 4 0) (getD time 3 0) (getD time 2 0) (pairAt time 0)
 
 -- an address behind a name: `02:01:01:01:01:01`
 unfoldable pub addressText : List ℕ → List ℕ → List ℕ
-addressText name a =
-    hexed name (getD a 0 0) ++ hexed (text ":") (getD a 1 0) ++ hexed (text ":") (getD a 2 0) ++ hexed (text ":") (getD a 3 0) ++ hexed (text ":") (getD a 4 0) ++ hexed (text ":") (getD a 5 0)
+addressText name a = hexed name (getD a 0 0) ++ hexes (text ":") (drop 1 a)
 
 unfoldable pub signalsText : List ℕ → List ℕ
 signalsText signals =
@@ -71,7 +72,7 @@ tailText EventKind e = eventTail e
 tailText Diagnostic e = field " subs " (e .subs)
 
 unfoldable pub headText : Kind → Element → List ℕ
-headText kind e = field "element " (reportId kind) ++ field " token " (e .token) ++ field " type " (e .ty) ++ field " status " (e .status)
+headText kind e = elementHead (reportId kind) (e .token) (e .ty) ++ field " status " (e .status)
 
 -- `element 79 token 5 type 0 status 0`, and what the element has behind its status
 unfoldable pub reportElementLine : Kind → Element → List ℕ
@@ -82,15 +83,11 @@ reportElementLine kind e = headText kind e ++ tailText kind e ++ text "\n"
 abbrev pub reportElementLines : Kind → List ElementRead → List ℕ
 reportElementLines kind es = pieces (λ (i : ℕ) (e : ElementRead). reportElementLine kind (e .element)) 0 es
 
--- `report 1 dialog 7 elements 1`
-unfoldable pub reportLine : Report → List ℕ
-reportLine r = field "report " (reportAction (r .kind)) ++ field " dialog " (r .dialog) ++ field " elements " (r .count) ++ text "\n"
-
 -- a report that was read of a frame: the refusal, or the first line and one line for each element that the cursor hands out
 unfoldable pub reportListing : List ℕ → Report → List ℕ
 reportListing s r =
     if not (eqb (r .refusal .number) 0) then refusalLine (r .refusal)
-    else reportLine r ++ reportElementLines (r .kind) (readElements s (r .kind) .elements)
+    else frameLine (text "report ") (reportAction (r .kind)) (r .dialog) (r .count) ++ reportElementLines (r .kind) (readElements s (r .kind) .elements)
 
 abbrev pub frameListing : List ℕ → List ℕ → List ℕ
 frameListing destination s = reportListing s (readReport destination s)
@@ -100,3 +97,7 @@ unfoldable pub inputListing : List ℕ → List ℕ
 inputListing input =
     if ltb (length input) 6 then refusalLine (refused badFrameLength 0)
     else frameListing (addressAt input 0) (drop 6 input)
+
+-- how many octets a listing has at most: the first line, and 14 for each octet that the elements take of a frame
+abbrev pub listingMost : ℕ
+listingMost = 52 + 14 * (longestFrame - 3)

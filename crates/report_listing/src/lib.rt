@@ -10,10 +10,12 @@ use octets::put;
 use report_reader::Cursor;
 use report_reader::Element;
 use report_reader::Event;
-use report_reader::Report;
 use report_reader::Step;
 use report_reader::read_report;
+use texts::put_element_head;
+use texts::put_frame;
 use texts::put_hex;
+use texts::put_hexes;
 use texts::put_number;
 use texts::put_octet;
 use texts::put_pair;
@@ -21,17 +23,17 @@ use texts::put_refusal;
 use texts::put_size;
 use texts::put_two;
 ghost use mathlib.Core.Path.{_≡_};
-ghost use Prim.Native.Nat.{_+_, _*_, _-_, _≤_};
+ghost use Prim.Native.Nat.{_+_, _≤_};
 ghost use lib.ListN.{length};
 ghost use Rattle.laws.specs.Buffers.{wrote};
 ghost use Rattle.texts.specs.Text.{Puts, written, Within};
 ghost use Rattle.report_reader.specs.Reader.{readElements};
-ghost use Rattle.report_listing.specs.Listing.{timeField, dateText, clockText, timeText, addressText, signalsText, eventText, unreadText, eventTail, tailText, headText, reportElementLine, reportElementLines, reportLine, frameListing, inputListing};
-ghost use Rattle.report_listing.specs.Internal.{tailMost, stepLine, stepMost};
+ghost use Rattle.report_listing.specs.Listing.{timeField, dateText, clockText, timeText, addressText, signalsText, eventText, unreadText, eventTail, tailText, headText, reportElementLine, reportElementLines, frameListing, inputListing, listingMost};
+ghost use Rattle.report_listing.specs.Internal.{eventMost, unreadMost, headMost, tailMost, lineMost, linesMost, stepLine, stepMost};
 
 // What the longest listing has at most: 52 octets for the first line, and 14 for each octet that the
 // elements take of a frame.
-pub const LISTING: usize = 32266;
+pub const LISTING: usize = 52 + 14 * (numbers::LONGEST_FRAME - 3);
 
 // ---- an element
 
@@ -60,28 +62,28 @@ fn put_time_octet(buf: &mut [u8], at: usize, front: &[u8], n: u8) -> usize
     put_time_field(buf, at, front, 2, 255, n as u16)
 }
 
-fn put_date(buf: &mut [u8], at: usize, time: [u8; 9]) -> usize
-    ensures { λ r. ⌜ Puts 23 (dateText time) at (now (buf .entry)) r (now (buf .exit)) ⌝ }
+fn put_date(buf: &mut [u8], at: usize, year: u16, month: u8, day: u8) -> usize
+    ensures { λ r. ⌜ Puts 23 (dateText year month day) at (now (buf .entry)) r (now (buf .exit)) ⌝ }
 {
-    let next = put_time_field(buf, at, b" time ", 4, 65535, pair(time[7], time[8]));
-    let next = put_time_octet(buf, next, b"-", time[6]);
-    put_time_octet(buf, next, b"-", time[5])
+    let next = put_time_field(buf, at, b" time ", 4, 65535, year);
+    let next = put_time_octet(buf, next, b"-", month);
+    put_time_octet(buf, next, b"-", day)
 }
 
-fn put_clock(buf: &mut [u8], at: usize, time: [u8; 9]) -> usize
-    ensures { λ r. ⌜ Puts 24 (clockText time) at (now (buf .entry)) r (now (buf .exit)) ⌝ }
+fn put_clock(buf: &mut [u8], at: usize, hour: u8, minute: u8, second: u8, ms: u16) -> usize
+    ensures { λ r. ⌜ Puts 24 (clockText hour minute second ms) at (now (buf .entry)) r (now (buf .exit)) ⌝ }
 {
-    let next = put_time_octet(buf, at, b" ", time[4]);
-    let next = put_time_octet(buf, next, b":", time[3]);
-    let next = put_time_octet(buf, next, b":", time[2]);
-    put_time_field(buf, next, b".", 3, 65535, pair(time[0], time[1]))
+    let next = put_time_octet(buf, at, b" ", hour);
+    let next = put_time_octet(buf, next, b":", minute);
+    let next = put_time_octet(buf, next, b":", second);
+    put_time_field(buf, next, b".", 3, 65535, ms)
 }
 
 fn put_time(buf: &mut [u8], at: usize, time: [u8; 9]) -> usize
     ensures { λ r. ⌜ Puts 47 (timeText time) at (now (buf .entry)) r (now (buf .exit)) ⌝ }
 {
-    let next = put_date(buf, at, time);
-    put_clock(buf, next, time)
+    let next = put_date(buf, at, pair(time[7], time[8]), time[6], time[5]);
+    put_clock(buf, next, time[4], time[3], time[2], pair(time[0], time[1]))
 }
 
 // An address behind a name.
@@ -89,11 +91,7 @@ fn put_address(buf: &mut [u8], at: usize, name: &[u8], a: [u8; 6]) -> usize
     ensures { λ r. ⌜ Puts (length (now (name .entry)) + 17) (addressText (now (name .entry)) a) at (now (buf .entry)) r (now (buf .exit)) ⌝ }
 {
     let next = put_hex(buf, at, name, a[0]);
-    let next = put_hex(buf, next, b":", a[1]);
-    let next = put_hex(buf, next, b":", a[2]);
-    let next = put_hex(buf, next, b":", a[3]);
-    let next = put_hex(buf, next, b":", a[4]);
-    put_hex(buf, next, b":", a[5])
+    put_hexes(buf, next, b":", &a[1..])
 }
 
 fn put_signals(buf: &mut [u8], at: usize, signals: [u8; 4]) -> usize
@@ -106,7 +104,7 @@ fn put_signals(buf: &mut [u8], at: usize, signals: [u8; 4]) -> usize
 }
 
 fn put_event(buf: &mut [u8], at: usize, e: Event) -> usize
-    ensures { λ r. ⌜ Puts 202 (eventText e) at (now (buf .entry)) r (now (buf .exit)) ⌝ }
+    ensures { λ r. ⌜ Puts eventMost (eventText e) at (now (buf .entry)) r (now (buf .exit)) ⌝ }
 {
     let time = e.time;
     let source = e.source;
@@ -123,7 +121,7 @@ fn put_event(buf: &mut [u8], at: usize, e: Event) -> usize
 
 // The octets of other event types, kept unread.
 fn put_unread(buf: &mut [u8], at: usize, ty: u8, n: usize) -> usize
-    ensures { λ r. ⌜ Puts 26 (unreadText ty n) at (now (buf .entry)) r (now (buf .exit)) ⌝ }
+    ensures { λ r. ⌜ Puts unreadMost (unreadText ty n) at (now (buf .entry)) r (now (buf .exit)) ⌝ }
 {
     match ty {
         0 => at,
@@ -155,17 +153,15 @@ fn put_tail(buf: &mut [u8], at: usize, kind: Kind, e: Element) -> usize
 }
 
 fn put_head(buf: &mut [u8], at: usize, kind: Kind, e: Element) -> usize
-    ensures { λ r. ⌜ Puts 41 (headText kind e) at (now (buf .entry)) r (now (buf .exit)) ⌝ }
+    ensures { λ r. ⌜ Puts headMost (headText kind e) at (now (buf .entry)) r (now (buf .exit)) ⌝ }
 {
-    let next = put_octet(buf, at, b"element ", kind.report_id());
-    let next = put_octet(buf, next, b" token ", e.token);
-    let next = put_octet(buf, next, b" type ", e.ty);
+    let next = put_element_head(buf, at, kind.report_id(), e.token, e.ty);
     put_octet(buf, next, b" status ", e.status)
 }
 
 // The line of an element.
 fn put_element(buf: &mut [u8], at: usize, kind: Kind, e: Element) -> usize
-    ensures { λ r. ⌜ Puts (41 + tailMost (e .logged) + 1) (reportElementLine kind e) at (now (buf .entry)) r (now (buf .exit)) ⌝ }
+    ensures { λ r. ⌜ Puts (lineMost (e .logged)) (reportElementLine kind e) at (now (buf .entry)) r (now (buf .exit)) ⌝ }
 {
     let next = put_head(buf, at, kind, e);
     let next = put_tail(buf, next, kind, e);
@@ -188,7 +184,7 @@ fn put_step(buf: &mut [u8], at: usize, kind: Kind, step: Step) -> usize
 // The lines of all elements of a frame that is not refused.
 fn put_elements(buf: &mut [u8], from: usize, s: &[u8], kind: Kind) -> usize
     requires { ⌜ readElements (now s) kind .refusal .number ≡ 0 ⌝ }
-    ensures { λ r. ⌜ Puts (14 * (length (now (s .entry)) - 3)) (reportElementLines kind (readElements (now (s .entry)) kind .elements)) from (now (buf .entry)) r (now (buf .exit)) ⌝ }
+    ensures { λ r. ⌜ Puts (linesMost (length (now (s .entry)))) (reportElementLines kind (readElements (now (s .entry)) kind .elements)) from (now (buf .entry)) r (now (buf .exit)) ⌝ }
 {
     let mut at = from;
     let mut cursor = Cursor::first();
@@ -201,19 +197,8 @@ fn put_elements(buf: &mut [u8], from: usize, s: &[u8], kind: Kind) -> usize
     at
 }
 
-// The first line of a frame that is not refused.
-fn put_report(buf: &mut [u8], at: usize, r: Report) -> usize
-    ensures { λ n. ⌜ Puts 52 (reportLine r) at (now (buf .entry)) n (now (buf .exit)) ⌝ }
-{
-    let kind = r.kind;
-    let next = put_octet(buf, at, b"report ", kind.report_action());
-    let next = put_octet(buf, next, b" dialog ", r.dialog);
-    let next = put_size(buf, next, b" elements ", r.count);
-    put(buf, next, b"\n")
-}
-
 fn put_listing(buf: &mut [u8], destination: [u8; 6], s: &[u8]) -> usize
-    ensures { λ n. ⌜ Puts 32266 (frameListing destination (now (s .entry))) 0 (now (buf .entry)) n (now (buf .exit)) ⌝ }
+    ensures { λ n. ⌜ Puts listingMost (frameListing destination (now (s .entry))) 0 (now (buf .entry)) n (now (buf .exit)) ⌝ }
 {
     let report = read_report(destination, s);
     let refusal = report.refusal;
@@ -221,20 +206,27 @@ fn put_listing(buf: &mut [u8], destination: [u8; 6], s: &[u8]) -> usize
         return put_refusal(buf, 0, refusal);
     }
     let kind = report.kind;
-    let next = put_report(buf, 0, report);
+    let next = put_frame(
+        buf,
+        0,
+        b"report ",
+        kind.report_action(),
+        report.dialog,
+        report.count,
+    );
     put_elements(buf, next, s, kind)
 }
 
 // Reads a report frame for a destination and lists it; the text's length.
 pub fn list_report(destination: [u8; 6], s: &[u8], buf: &mut [u8; LISTING]) -> usize
     ensures { λ n. ⌜ wrote n (now (buf .exit)) ≡ written (frameListing destination (now (s .entry))) (now (buf .entry)) ⌝ }
-    ensures { λ n. ⌜ Within 32266 n (now (buf .exit)) ⌝ }
+    ensures { λ n. ⌜ Within listingMost n (now (buf .exit)) ⌝ }
 {
     put_listing(buf, destination, s)
 }
 
 fn put_input(buf: &mut [u8], input: &[u8]) -> usize
-    ensures { λ n. ⌜ Puts 32266 (inputListing (now (input .entry))) 0 (now (buf .entry)) n (now (buf .exit)) ⌝ }
+    ensures { λ n. ⌜ Puts listingMost (inputListing (now (input .entry))) 0 (now (buf .entry)) n (now (buf .exit)) ⌝ }
 {
     if input.len() < 6 {
         return put_refusal(buf, 0, Refusal::new(causes::BAD_FRAME_LENGTH, 0));
@@ -245,7 +237,7 @@ fn put_input(buf: &mut [u8], input: &[u8]) -> usize
 // Lists the input of the program `report`: six octets of destination, then the frame.
 pub fn list_input(input: &[u8], buf: &mut [u8; LISTING]) -> usize
     ensures { λ n. ⌜ wrote n (now (buf .exit)) ≡ written (inputListing (now (input .entry))) (now (buf .entry)) ⌝ }
-    ensures { λ n. ⌜ Within 32266 n (now (buf .exit)) ⌝ }
+    ensures { λ n. ⌜ Within listingMost n (now (buf .exit)) ⌝ }
 {
     put_input(buf, input)
 }

@@ -1,28 +1,42 @@
--- Laws of the reader: a step that is not refused moves on, and not past the end; its verdict says the rest of it; where a transition stands, an element was found, and how many octets it takes; the validation agrees with the cursor's walk.
+-- Laws of the reader: a transition is read of the part that it stands in; a step that is not refused moves on, and not past the end; its verdict says the rest of it; where a transition stands, an element was found, and how many octets it takes; a turn of the validating loop.
 -- Assumes nothing.
 use Prim.Native.Nat.{ℕ, _+_, _-_, _≤_, _<_}
-use mathlib.Core.Path.{_≡_, refl}
+use mathlib.Core.Path.{_≡_, refl, sym, ap, _∙_}
 use mathlib.Core.Bool.{Bool, true, false, not}
-use mathlib.Core.List.{List, [], _∷_, _++_}
+use mathlib.Core.List.{List, [], _∷_}
+use native.Mathlib.Nat.{add-zero}
 use native.Mathlib.Omega.{arith}
-use lib.ListN.{length, getD, length-append}
+use lib.ListN.{length, getD, take, drop, length-append}
 use lib.Dec.{eqb}
 use borrow.Author.Tests.{eqb-true, eqb-false, ltb-false, not-true, not-false}
 use Rattle.laws.specs.Choice.{if_then_else_}
-use Rattle.laws.proofs.Walk.{view-walk}
+use Rattle.laws.proofs.Walk.{Rest, start, last, again, done, go-on, stop-refused, stop-end}
 use Rattle.laws.proofs.Choice.{either, never}
 use Rattle.octets.specs.declared.numbers.Kind.{Kind}
 use Rattle.octets.specs.declared.numbers.Kind.the-variants.{Event, Diagnostic}
 use Rattle.octets.specs.Refusals.{noRefusal}
 use Rattle.octets.specs.Elements.{pieceEnd}
+use Rattle.octets.specs.Times.{timeAt}
+use Rattle.octets.proofs.PlaceLaws.{octets-within}
 use Rattle.octets.proofs.ElementLaws.{piece-ends}
 use Rattle.subelements.specs.declared.Subelements.{Subelements}
 use Rattle.subelements.specs.Subelements.{walk}
+use Rattle.events.specs.Transitions.{transitionLength}
 use Rattle.report_reader.specs.declared.Step.{Step}
 use Rattle.report_reader.specs.declared.Verdict.{Verdict}
 use Rattle.report_reader.specs.declared.Walk.{Walk}
-use Rattle.report_reader.specs.Reader.{refusedStep, skippedStep, foundStep, plainStep, loggedStep, bareStep, transitionStep, eventStep, walkedStep, diagnosticStep, kindStep, ownReportStep, stepAt, atWalk, advanced, moreReports, validateStep, validate, elementReadAt, Reading, reading, gathered, unread, readStep, readElements}
-use Rattle.report_reader.specs.Internal.{verdictOf, transitionAt, foundElement, Fits, stepOf}
+use Rattle.report_reader.specs.Reader.{eventAt, refusedStep, skippedStep, foundStep, plainStep, loggedStep, bareStep, transitionStep, eventStep, walkedStep, diagnosticStep, kindStep, ownReportStep, stepAt, elementReadAt, Reading, reading, gathered, unread, readStep, readElements}
+use Rattle.report_reader.specs.Internal.{verdictOf, walkOf, transitionAt, foundElement, Fits, stepOf}
+
+-- ---- a transition, read of the part that it stands in
+
+module _ (s : List ℕ) (at m : ℕ) where
+  pub time-part : 9 ≤ m → timeAt (take m (drop at s)) 0 ≡ timeAt s at
+  time-part h = octets-within s m at 9 0 h ∙ ap (timeAt s) (add-zero at)
+
+  pub event-part : 30 ≤ m → eventAt (take m (drop at s)) 0 ≡ eventAt s at
+  unfolding eventAt
+  event-part h = rw (time-part (omega arith), octets-within s m at transitionLength 9 (omega arith))
 
 -- ---- an event report of length 3 is plain
 
@@ -162,46 +176,77 @@ stands-extends s at (is-logged h) e = record { least = omega arith; event = λ _
 pub found-extent : (s : List ℕ) (kind : Kind) (at : ℕ) (t : Step) → t ≡ stepAt s kind at → t .found ≡ true → Extent at t
 found-extent s kind at t e f = rw e (stands-extends s at (stands s kind at) (rw e at f))
 
--- ---- the validation's step moves on too, and its position bounds its count
+-- ---- the reading's step moves on too, and its position bounds the number of elements
 
-pub record Moved (end : ℕ) (w r : Walk) : Type 0 where
-  pub on : w .at < r .at
-  pub within : r .at ≤ end
-  pub counted : r .count ≤ r .at
+record Moved (end : ℕ) (x y : Reading) : Type 0 where
+  on : x .at < y .at
+  within : y .at ≤ end
+  counted : length (y .elements) ≤ y .at
 
-advanced-moves : (s : List ℕ) (w : Walk) (t : Step) → (t .refusal .number ≡ 0 → Forward s (w .at) t) → w .count ≤ w .at → advanced w t .refusal .number ≡ 0
-    → Moved (length s) w (advanced w t)
-unfolding advanced
-advanced-moves s w t f c =
-    let P : Walk → Type 0 = λ (r : Walk). r .refusal .number ≡ 0 → Moved (length s) w r in
+gathered-moves : (s : List ℕ) (x : Reading) (t : Step) → (t .refusal .number ≡ 0 → Forward s (x .at) t) → length (x .elements) ≤ x .at → gathered s x t .refusal .number ≡ 0
+    → Moved (length s) x (gathered s x t)
+unfolding gathered
+gathered-moves s x t f c =
+    let P : Reading → Type 0 = λ (y : Reading). y .refusal .number ≡ 0 → Moved (length s) x y in
     either P _ _ _ (λ p z. absurd (eqb-false (t .refusal .number) 0 (not-true _ p) z))
     (λ p. let g = f (eqb-true (t .refusal .number) 0 (not-false _ p)) in
     either P _ _ _
-    (λ _ _. record { on = g .on; within = g .within; counted = omega (arith, g .on) })
+    (λ _ _. record { on = g .on; within = g .within; counted = omega (arith, g .on, length-append (x .elements) (elementReadAt s t ∷ [])) })
     (λ _ _. record { on = g .on; within = g .within; counted = omega (arith, g .on) }))
 
-pub moved : (s : List ℕ) (kind : Kind) {w r : Walk} → r ≡ validateStep s kind w → w .count ≤ w .at → r .refusal .number ≡ 0 → Moved (length s) w r
-unfolding validateStep
-moved s kind {w} e c z = rw e (advanced-moves s w (stepAt s kind (w .at)) (step-goes s kind (w .at)) c (rw e at z))
+-- ---- the validating loop: what it keeps is a reading's, and what is left of the reading gives the whole
 
--- ---- the validation agrees with the cursor's walk
+pub record Validating (s : List ℕ) (kind : Kind) (w : Walk) : Type 0 where
+  pub read : Reading
+  pub is : w ≡ walkOf read
+  pub fine : read .refusal .number ≡ 0
+  pub counted : w .count ≤ w .at
+  pub left : Rest (unread (length s)) (readStep s kind) (readElements s kind) (length s - read .at) read
 
--- what it sees of the elements that are handed out
-abbrev viewed : Reading → Walk
-viewed w = atWalk (w .refusal) (w .at) (length (w .elements))
+pub validating-start : (s : List ℕ) (kind : Kind) → Validating s kind (walkOf (reading noRefusal 3 []))
+unfolding readElements
+validating-start s kind =
+    record { read = reading noRefusal 3 []; is = refl; fine = refl; counted = omega arith; left = start _ _ (length s) _ _ (omega arith) }
 
-gathered-viewed : (s : List ℕ) (w : Reading) (t : Step) → advanced (viewed w) t ≡ viewed (gathered s w t)
-unfolding advanced gathered if_then_else_
-gathered-viewed s w t = go (not (eqb (t .refusal .number) 0)) (t .found)
-  where
-    go : (a b : Bool)
-        → (if a then atWalk (t .refusal) 0 0 else if b then atWalk noRefusal (t .next .at) (length (w .elements) + 1) else atWalk noRefusal (t .next .at) (length (w .elements)))
-        ≡ viewed (if a then reading (t .refusal) 0 [] else if b then reading noRefusal (t .next .at) (w .elements ++ (elementReadAt s t ∷ [])) else reading noRefusal (t .next .at) (w .elements))
-    go true b = refl
-    go false true = rw (length-append (w .elements) (elementReadAt s t ∷ []))
-    go false false = refl
+module _ {s : List ℕ} {kind : Kind} {w : Walk} (v : Validating s kind w) where
+  place : w .at ≡ v .read .at
+  place = ap (λ (x : Walk). x .at) (v .is)
 
-pub agrees : (s : List ℕ) (kind : Kind) → validate s kind ≡ viewed (readElements s kind)
-unfolding validate readElements validateStep readStep
-agrees s kind =
-    view-walk viewed (unread (length s)) (moreReports (length s)) (readStep s kind) (validateStep s kind) (λ _. refl) (λ w. gathered-viewed s w (stepAt s kind (w .at))) (length s) (reading noRefusal 3 [])
+  pub validating-end : length s ≤ w .at → w ≡ walkOf (readElements s kind)
+  validating-end end = v .is ∙ ap walkOf (done (v .left) (stop-end _ (v .read .at) (length s) (v .fine) (omega (arith, place))))
+
+  -- a turn
+  module _ (inside : w .at < length s) {r : Walk} (does : r ≡ walkOf (gathered s (v .read) (stepAt s kind (w .at)))) where
+    more : unread (length s) (v .read) ≡ true
+    more = go-on _ (v .read .at) (length s) (v .fine) (omega (arith, place))
+
+    abbrev y : Reading
+    y = readStep s kind (v .read)
+
+    turned : r ≡ walkOf y
+    unfolding readStep
+    turned = does ∙ ap (λ (k : ℕ). walkOf (gathered s (v .read) (stepAt s kind k))) place
+
+    number : r .refusal .number ≡ y .refusal .number
+    number = ap (λ (x : Walk). x .refusal .number) turned
+
+    pub validating-refused : (r .refusal .number ≡ 0 → ⊥) → r ≡ walkOf (readElements s kind)
+    validating-refused stops = turned ∙ ap walkOf (last (v .left) more (omega (arith, place)) refl (stop-refused _ (y .at) (length s) (λ z. stops (number ∙ z))))
+
+    module _ (fine : r .refusal .number ≡ 0) where
+      moved : Moved (length s) (v .read) y
+      unfolding readStep
+      moved =
+          gathered-moves s (v .read) (stepAt s kind (v .read .at)) (step-goes s kind (v .read .at)) (rw (v .is) at (v .counted)) (sym number ∙ fine)
+
+      pub validating-on : w .at < r .at
+      validating-on = omega (arith, place, moved .on, ap (λ (x : Walk). x .at) turned)
+
+      pub validating-next : Validating s kind r
+      validating-next = record {
+        read = y;
+        is = turned;
+        fine = sym number ∙ fine;
+        counted = rw turned (moved .counted);
+        left = again _ (v .left) more (omega (arith, moved .on, moved .within)) refl;
+      }

@@ -1,44 +1,43 @@
 -- The round trip: what is told in a report frame is read back, element by element and in whole frames.
 -- Assumes nothing.
-use Prim.Native.Nat.{ℕ, suc, _+_, _-_, _≤_, _<_}
+use Prim.Native.Nat.{ℕ, _+_, _-_, _≤_, _<_}
 use mathlib.Core.Path.{_≡_, refl, sym, ap, _∙_}
 use mathlib.Core.Bool.{true, false}
 use mathlib.Core.List.{List, [], _∷_, _++_, map, map-append, append-assoc, append-nil}
-use lib.ListN.{length, getD, take, drop, length-append, length-drop, length-map, List·getD-append}
-use lib.Seq.{take-all, take-at, take-append-le, drop-append-le, drop-drop}
+use lib.ListN.{length, getD, drop, length-append, length-map}
 use borrow.Author.Tests.{le-ltb, le-leb, ne-eqb, eq-eqb}
 use native.Mathlib.Omega.{arith}
 use Rattle.laws.specs.Members.{All}
 use Rattle.laws.specs.Choice.{if_then_else_}
 use Rattle.units.specs.Time.{age, tusOf}
-use Rattle.octets.specs.Fields.{pair, pairAt, low, high}
 use Rattle.laws.specs.Buffers.{pieces}
 use Rattle.laws.proofs.Walk.{Rest, start, again, done, go-on, stop-end}
 use Rattle.laws.proofs.Parts.{stands-at, stands-first, stands-length, stands-behind}
 use Rattle.laws.proofs.Pieces.{Each, each-all, along}
 use Rattle.octets.specs.declared.numbers.Kind.{Kind}
 use Rattle.octets.specs.declared.numbers.Kind.the-variants.{Event, Diagnostic}
-use Rattle.octets.specs.Numbers.{category, reportAction, reportId, successful, longestFrame}
+use Rattle.octets.specs.Numbers.{reportAction, reportId, successful, longestFrame}
 use Rattle.octets.specs.Refusals.{noRefusal}
+use Rattle.octets.specs.Fields.{octetsAt}
 use Rattle.octets.specs.Addresses.{isGroup}
-use Rattle.octets.specs.Times.{goodTime}
+use Rattle.octets.specs.Times.{goodTime, timeAt}
 use Rattle.octets.specs.Elements.{framed, Subelement, subelements}
 use Rattle.octets.proofs.ElementLaws.{piece-stands}
-use Rattle.octets.proofs.FieldLaws.{pair-halves}
+use Rattle.octets.proofs.PlaceLaws.{octets-stand}
+use Rattle.octets.proofs.FrameLaws.{head-accepted, head-kind}
 use Rattle.subelements.specs.declared.Subelements.{Subelements}
 use Rattle.subelements.specs.Subelements.{noFilter, wholeStep, subelementStep, walk}
 use Rattle.subelements.specs.Subelements.{moreSubelements as moreSubs}
 use Rattle.events.specs.declared.Transition.{Transition}
-use Rattle.events.specs.Log.{bodyOf, entryOf}
+use Rattle.events.specs.Transitions.{transitionLength, transitionBodyAt, sourceOf, targetOf, tookOf, reasonOf, resultOf, signalsOf, bodyOf, entryOf}
+use Rattle.events.proofs.TransitionLaws.{body-length, source-back, target-back, took-back, reason-back, result-back, signals-back}
 use Rattle.events.specs.Loggings.{Logging, entryFor, TransitionLengths}
 use Rattle.events.specs.declared.Entry.{Entry}
 use Rattle.reports.specs.Reports.{reportElement, eventElement}
 use Rattle.report_reader.specs.declared.Event.{Event as Fields}
-use Rattle.report_reader.specs.declared.Element.{Element}
-use Rattle.report_reader.specs.declared.Step.{Step}
-use Rattle.report_reader.specs.Reader.{part, eventAt, plainElement, loggedElement, foundStep, plainStep, loggedStep, transitionStep, eventStep, walkedStep, diagnosticStep, ownReportStep, stepAt, reportOf, validatedReport, readReport, elementReadAt, reading, gathered, unread, readStep, readElements}
-use Rattle.report_reader.specs.Contents.{Content, statusOnly, loggedEvent, keptUnread, withSubelements, Valid, contentOctets, contentFrame, reported, contentRead, ReadAs, ReportRoundTrip}
-use Rattle.report_reader.proofs.Laws.{short-event, agrees}
+use Rattle.report_reader.specs.Reader.{eventAt, plainElement, loggedElement, foundStep, plainStep, loggedStep, transitionStep, eventStep, walkedStep, diagnosticStep, ownReportStep, stepAt, reportOf, readReport, reading, gathered, unread, readStep, readElements}
+use Rattle.report_reader.specs.Contents.{Content, statusOnly, loggedEvent, keptUnread, withSubelements, Valid, contentOctets, contentFrame, reported, contentRead, ReportRoundTrip}
+use Rattle.report_reader.proofs.Laws.{short-event}
 
 -- ---- subelements that are walked for their edges
 
@@ -89,8 +88,8 @@ module _ (s : List ℕ) (kind : Kind) (at token ty status : ℕ) (rest r : List 
   unfolding reportElement
   rest-there = stands-behind s at (reportId kind ∷ length body ∷ token ∷ ty ∷ status ∷ []) (rest ++ r) h (at + 5) refl
 
-  behind-there : part s (at + 5) (length rest) ≡ rest
-  behind-there = ap (take (length rest)) rest-there ∙ take-at rest r (length rest) refl
+  behind-there : octetsAt s (at + 5) (length rest) ≡ rest
+  behind-there = octets-stand s (at + 5) (length rest) rest r refl rest-there
 
   token-there : getD s (at + 2) 0 ≡ token
   unfolding reportElement
@@ -126,76 +125,30 @@ module _ (s : List ℕ) (kind : Kind) (at token ty status : ℕ) (rest r : List 
       let m : length body - 3 ≡ length rest = omega arith in
       rw (token-there, ty-there, status-there, m, end-there)
 
--- ---- a transition that stands at a position
+-- ---- a logged transition that stands at a position: each field as logging took it, and the transition time across the rollover
 
-module _ (s : List ℕ) (at : ℕ) (o r : List ℕ) (h : drop at s ≡ o ++ r) where
-  part-there : (k n : ℕ) → k + n ≤ length o → part s (at + k) n ≡ part o k n
-  part-there k n fits =
-      ap (take n) (sym (drop-drop k at s) ∙ ap (drop k) h ∙ drop-append-le k o r (omega arith)) ∙ take-append-le n (drop k o) r (omega (arith, length-drop k o))
-
-  octet-there : (k : ℕ) → k < length o → getD s (at + k) 0 ≡ getD o k 0
-  octet-there k fits = stands-at s at o r h k 0 ∙ List·getD-append o r 0 k fits
-
-  event-there : length o ≡ 30 → eventAt s at ≡ eventAt o 0
-  unfolding eventAt
-  event-there n =
-      let e : at + 21 + 1 ≡ at + 22 = omega arith in
-      let f : at + 24 + 1 ≡ at + 25 = omega arith in
-      let t : part s at 9 ≡ part o 0 9 = ap (take 9) h ∙ take-append-le 9 o r (omega arith) in
-      rw (
-        t,
-        part-there 9 6 (omega arith),
-        part-there 15 6 (omega arith),
-        e,
-        octet-there 21 (omega arith),
-        octet-there 22 (omega arith),
-        octet-there 23 (omega arith),
-        f,
-        octet-there 24 (omega arith),
-        octet-there 25 (omega arith),
-        part-there 26 4 (omega arith),
-      )
-
--- ---- a logged transition: each field as logging took it, and the transition time across the rollover
-
-pair-there : (o : List ℕ) (k m x y : ℕ) → getD o k 0 ≡ x → getD o m 0 ≡ y → pair (getD o k 0) (getD o m 0) ≡ pair x y
-pair-there o k m x y p q = rw (p, q)
-
-event-fields : (o : List ℕ) (e : Fields) → part o 0 9 ≡ e .time → part o 9 6 ≡ e .source → part o 15 6 ≡ e .target → pairAt o 21 ≡ e .took .0
-    → getD o 23 0 ≡ e .reason → pairAt o 24 ≡ e .result → part o 26 4 ≡ e .signals → eventAt o 0 ≡ e
+event-fields : (s : List ℕ) (at : ℕ) (body : List ℕ) (e : Fields) → transitionBodyAt s (at + 9) ≡ body → timeAt s at ≡ e .time → sourceOf body ≡ e .source → targetOf body ≡ e .target
+    → tookOf body ≡ e .took .0 → reasonOf body ≡ e .reason → resultOf body ≡ e .result → signalsOf body ≡ e .signals → eventAt s at ≡ e
 unfolding eventAt
-event-fields o e a b c d f g h = rw (a, b, c, d, f, g, h)
+event-fields s at body e there a b c d f g h = rw (there, a, b, c, d, f, g, h)
 
-transition-back : (x : Logging) → TransitionLengths (x .transition) → eventAt (entryFor x .time ++ entryFor x .body) 0 ≡ reported x
-unfolding entryOf bodyOf reported
-transition-back x w =
-    let now : ℕ = x .reading in
+transition-back : (s : List ℕ) (at : ℕ) (x : Logging) (r : List ℕ) → TransitionLengths (x .transition) → drop at s ≡ (entryFor x .time ++ entryFor x .body) ++ r
+    → eventAt s at ≡ reported x
+unfolding entryOf reported
+transition-back s at x r w h =
     let t : Transition = x .transition in
-    let tus : ℕ = tusOf (age now (t .departure .0)) in
-    let z : List ℕ = low tus ∷ high tus ∷ t .reason ∷ low (t .result) ∷ high (t .result) ∷ t .signals in
-    let y : List ℕ = t .target ++ z in
-    let v : List ℕ = t .source ++ y in
-    let o : List ℕ = t .time ++ v in
-    let a : drop 9 o ≡ v = stands-behind o 0 (t .time) v refl 9 (omega (arith, w .time)) in
-    let b : drop 15 o ≡ y = stands-behind o 9 (t .source) y a 15 (omega (arith, w .source)) in
-    let d : drop 21 o ≡ z ++ [] = stands-behind o 15 (t .target) z b 21 (omega (arith, w .target)) ∙ sym (append-nil z) in
-    let e : drop 26 o ≡ t .signals = stands-behind o 21 (low tus ∷ high tus ∷ t .reason ∷ low (t .result) ∷ high (t .result) ∷ []) (t .signals) (d ∙ append-nil z) 26 refl in
-    ap (λ (l : List ℕ). eventAt (t .time ++ l) 0) (append-assoc (t .source) (t .target) z)
-    ∙ event-fields o (reported x)
-    (take-at (t .time) v 9 (w .time))
-    (ap (take 6) a ∙ take-at (t .source) y 6 (w .source))
-    (ap (take 6) b ∙ take-at (t .target) z 6 (w .target))
-    (pair-there o 21 22 _ _ (stands-at o 21 z [] d 0 0) (stands-at o 21 z [] d 1 0) ∙ pair-halves tus)
-    (stands-at o 21 z [] d 2 0)
-    (pair-there o 24 25 _ _ (stands-at o 21 z [] d 3 0) (stands-at o 21 z [] d 4 0) ∙ pair-halves (t .result))
-    (ap (take 4) e ∙ take-all 4 (t .signals) (omega (arith, w .signals)))
-
-body-length : (now : ℕ) (t : Transition) → TransitionLengths t → length (entryOf now t .body) ≡ 21
-unfolding entryOf bodyOf
-body-length now t w =
-    let tus : ℕ = tusOf (age now (t .departure .0)) in
-    let z : List ℕ = low tus ∷ high tus ∷ t .reason ∷ low (t .result) ∷ high (t .result) ∷ t .signals in
-    omega (arith, length-append (t .source ++ t .target) z, length-append (t .source) (t .target), w .source, w .target, w .signals)
+    let tus : ℕ = tusOf (age (x .reading) (t .departure .0)) in
+    let body : List ℕ = bodyOf t tus in
+    let at-time : drop at s ≡ t .time ++ (body ++ r) = h ∙ append-assoc (t .time) body r in
+    let at-body : drop (at + 9) s ≡ body ++ r = stands-behind s at (t .time) _ at-time (at + 9) (omega (arith, w .time)) in
+    event-fields s at body (reported x) (octets-stand s (at + 9) transitionLength body r (body-length t tus w) at-body)
+    (octets-stand s at 9 (t .time) _ (w .time) at-time)
+    (source-back t tus w)
+    (target-back t tus w)
+    (took-back t tus w)
+    (reason-back t tus w)
+    (result-back t tus w)
+    (signals-back t tus w)
 
 -- ---- one element
 
@@ -204,7 +157,7 @@ module _ (s : List ℕ) (at : ℕ) where
   unfolding eventStep if_then_else_
   kept-event n e other = rw (e, ne-eqb (getD s (at + 3) 0) 0 other)
 
-  logged-event : (n : ℕ) → n ≡ 33 → getD s (at + 4) 0 ≡ 0 → getD s (at + 3) 0 ≡ 0 → goodTime (part s (at + 5) 9) ≡ true → eventStep s at n ≡ loggedStep s at
+  logged-event : (n : ℕ) → n ≡ 33 → getD s (at + 4) 0 ≡ 0 → getD s (at + 3) 0 ≡ 0 → goodTime (timeAt s (at + 5)) ≡ true → eventStep s at n ≡ loggedStep s at
   unfolding eventStep transitionStep if_then_else_
   logged-event n m e f good = rw (e, f, m, good)
 
@@ -215,11 +168,11 @@ module _ (s : List ℕ) (at : ℕ) where
 -- what is found at a position: the step, and what it hands out
 record Found (s : List ℕ) (kind : Kind) (at : ℕ) (x : Content kind) : Type 0 where
   step : stepAt s kind at ≡ foundStep (contentRead kind x .element) (at + 5) (at + length (contentOctets kind x))
-  behind : part s (at + 5) (contentRead kind x .element .length) ≡ contentRead kind x .behind
+  behind : octetsAt s (at + 5) (contentRead kind x .element .length) ≡ contentRead kind x .behind
 
 module _ (s : List ℕ) (at : ℕ) (r : List ℕ) where
   bare-event : (token ty status : ℕ) → status ≤ 4 → drop at s ≡ contentOctets Event (statusOnly token ty status) ++ r → Found s Event at (statusOnly token ty status)
-  unfolding contentOctets
+  unfolding contentOctets octetsAt
   bare-event token ty status few h = record {
     step =
         own-there s Event at token ty status [] r h
@@ -242,29 +195,29 @@ module _ (s : List ℕ) (at : ℕ) (r : List ℕ) where
 
   -- nine octets of time and 21 of transition
   logged-back : (token : ℕ) (time body : List ℕ) → length time ≡ 9 → length body ≡ 21 → goodTime time ≡ true → drop at s ≡ reportElement Event token 0 0 (time ++ body) ++ r
-      → stepAt s Event at ≡ foundStep (loggedElement token 0 0 (eventAt (time ++ body) 0)) (at + 5) (at + length (reportElement Event token 0 0 (time ++ body)))
+      → stepAt s Event at ≡ foundStep (loggedElement token 0 0 (eventAt s (at + 5))) (at + 5) (at + length (reportElement Event token 0 0 (time ++ body)))
   unfolding loggedStep
   logged-back token time body lt lb good h =
       let o : List ℕ = time ++ body in
       let l : length o ≡ 30 = length-append time body ∙ omega arith in
       let n : at + 35 ≡ at + length (reportElement Event token 0 0 o) = omega (arith, end-there s Event at token 0 0 o r h) in
-      let t : part s (at + 5) 9 ≡ time = ap (take 9) (rest-there s Event at token 0 0 o r h ∙ append-assoc time body r) ∙ take-at time (body ++ r) 9 lt in
+      let t : timeAt s (at + 5) ≡ time = octets-stand s (at + 5) 9 time (body ++ r) lt (rest-there s Event at token 0 0 o r h ∙ append-assoc time body r) in
       own-there s Event at token 0 0 o r h
       ∙ own-event s at (length (token ∷ 0 ∷ 0 ∷ o)) (omega arith) (omega (arith, status-there s Event at token 0 0 o r h))
       ∙ logged-event s at (length (token ∷ 0 ∷ 0 ∷ o)) (omega arith) (status-there s Event at token 0 0 o r h) (ty-there s Event at token 0 0 o r h) (rw t good)
-      ∙ rw (n, token-there s Event at token 0 0 o r h, ty-there s Event at token 0 0 o r h, status-there s Event at token 0 0 o r h, event-there s (at + 5) o r (rest-there s Event at token 0 0 o r h) l)
+      ∙ rw (n, token-there s Event at token 0 0 o r h, ty-there s Event at token 0 0 o r h, status-there s Event at token 0 0 o r h)
 
   event-back : (token : ℕ) (x : Logging) → TransitionLengths (x .transition) → goodTime (x .transition .time) ≡ true → drop at s ≡ contentOctets Event (loggedEvent token x) ++ r → Found s Event at (loggedEvent token x)
   unfolding contentOctets eventElement entryOf
   event-back token x w good h =
       let e : Entry = entryFor x in
-      let lb = body-length (x .reading) (x .transition) w in
+      let lb = body-length (x .transition) (tusOf (age (x .reading) (x .transition .departure .0))) w in
       let l : length (e .time ++ e .body) ≡ 30 = length-append (e .time) (e .body) ∙ omega (arith, lb, w .time) in
       record {
         step =
             logged-back token (e .time) (e .body) (w .time) lb good h
-            ∙ ap (λ (f : Fields). foundStep (loggedElement token 0 successful f) (at + 5) (at + length (eventElement token e))) (transition-back x w);
-        behind = ap (part s (at + 5)) (sym l) ∙ behind-there s Event at token 0 0 (e .time ++ e .body) r h;
+            ∙ ap (λ (f : Fields). foundStep (loggedElement token 0 successful f) (at + 5) (at + length (eventElement token e))) (transition-back s (at + 5) x r w (rest-there s Event at token 0 0 (e .time ++ e .body) r h));
+        behind = octets-stand s (at + 5) 30 (e .time ++ e .body) r l (rest-there s Event at token 0 0 (e .time ++ e .body) r h);
       }
 
   listed-back : (token ty status : ℕ) (ps : List Subelement) → status ≤ 4 → drop at s ≡ reportElement Diagnostic token ty status (subelements ps) ++ r
@@ -306,12 +259,6 @@ content-some kind (loggedEvent token x) = omega arith
 content-some kind (keptUnread token ty o) = omega arith
 content-some kind (withSubelements token ty status ps) = omega arith
 
-header-back : (kind : Kind) (dialog : ℕ) (o destination : List ℕ) → isGroup destination ≡ false → 3 + length o ≤ longestFrame
-    → readReport destination (category ∷ reportAction kind ∷ dialog ∷ o) ≡ validatedReport (category ∷ reportAction kind ∷ dialog ∷ o) kind
-unfolding readReport if_then_else_
-header-back Event dialog o destination single fits = rw (single, le-ltb (suc (suc (suc (length o)))) 3 (omega arith), le-ltb 2304 (suc (suc (suc (length o)))) (omega arith))
-header-back Diagnostic dialog o destination single fits = rw (single, le-ltb (suc (suc (suc (length o)))) 3 (omega arith), le-ltb 2304 (suc (suc (suc (length o)))) (omega arith))
-
 module _ (kind : Kind) (dialog : ℕ) (xs : List (Content kind)) where
   abbrev frame : List ℕ
   frame = contentFrame kind dialog xs
@@ -336,11 +283,12 @@ module _ (kind : Kind) (dialog : ℕ) (xs : List (Content kind)) where
         (start _ _ (length frame) _ _ (omega arith)))
         (stop-end 0 (length frame) (length frame) refl (omega arith)))
 
-    -- the frame is validated to have as many elements as were told
+    -- and the report has as many elements as were told
     report-back : (d : List ℕ) → isGroup d ≡ false → length frame ≤ longestFrame → readReport d frame ≡ record { refusal = noRefusal; kind = kind; dialog = dialog; count = length xs }
-    unfolding reportOf if_then_else_
+    unfolding readReport reportOf if_then_else_
     report-back d single fits =
-        header-back kind dialog (pieces (λ _ x. contentOctets kind x) 0 xs) d single (omega arith) ∙ rw (agrees frame kind, elements-back, length-map xs (contentRead kind))
+        let o : List ℕ = pieces (λ _ x. contentOctets kind x) 0 xs in
+        rw (single, head-kind dialog o reportAction refl kind, head-accepted dialog o (reportAction kind) (omega arith), elements-back, length-map xs (contentRead kind))
 
 -- What is told in a frame is read back of it.
 pub report-round-trip : ReportRoundTrip

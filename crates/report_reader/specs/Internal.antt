@@ -11,11 +11,16 @@ use Rattle.report_reader.specs.declared.Event.{Event}
 use Rattle.report_reader.specs.declared.Element.{Element}
 use Rattle.report_reader.specs.declared.Step.{Step}
 use Rattle.report_reader.specs.declared.Verdict.{Verdict}
-use Rattle.report_reader.specs.Reader.{noEvent, eventAt, plainElement, foundStep}
+use Rattle.report_reader.specs.declared.Walk.{Walk}
+use Rattle.report_reader.specs.Reader.{noEvent, eventAt, plainElement, foundStep, Reading}
 
 -- all but the fields that are only handed out
 unfoldable pub verdictOf : Step → Verdict
 verdictOf t = record { refusal = t .refusal; found = t .found; logged = t .element .logged; subs = t .element .subs; next = t .next .at }
+
+-- what it keeps of a reading: of the elements only their number
+abbrev pub walkOf : Reading → Walk
+walkOf x = record { refusal = x .refusal; at = x .at; count = length (x .elements) }
 
 -- ---- the fields of what was found at a position
 

@@ -3,32 +3,29 @@
 use Prim.Native.Nat.{ℕ, _+_, _-_}
 use mathlib.Core.Bool.{Bool, true, false, not, _&&_}
 use mathlib.Core.List.{List, [], _∷_, _++_}
-use lib.ListN.{length, getD, take, drop}
+use lib.ListN.{length, getD}
 use lib.Dec.{ltb, eqb}
 use Rattle.laws.specs.Choice.{if_then_else_}
 use Rattle.laws.specs.Walk.{repeatWhile}
 use Rattle.octets.specs.declared.numbers.Kind.{Kind}
 use Rattle.octets.specs.declared.numbers.Kind.the-variants.{Event as EventKind, Diagnostic}
 use Rattle.octets.specs.declared.refusals.Refusal.{Refusal}
-use Rattle.octets.specs.Numbers.{category, reportAction, reportId, successful, cancelled, shortestFrame, longestFrame}
-use Rattle.octets.specs.Refusals.{refused, noRefusal, badFrameLength, badHeader, elementPastEnd, shortElement, badReportBody, badTime, groupDestination}
-use Rattle.octets.specs.Fields.{pairAt}
+use Rattle.octets.specs.Numbers.{reportAction, reportId, successful, cancelled}
+use Rattle.octets.specs.Refusals.{refused, noRefusal, elementPastEnd, shortElement, badReportBody, badTime, groupDestination}
+use Rattle.octets.specs.Fields.{octetsAt}
 use Rattle.octets.specs.Addresses.{isGroup}
+use Rattle.octets.specs.Frames.{frameKind, frameCause}
 use Rattle.octets.specs.Elements.{pieceEnd}
-use Rattle.octets.specs.Times.{goodTime}
+use Rattle.octets.specs.Times.{goodTime, timeAt}
 use Rattle.subelements.specs.declared.Subelements.{Subelements}
 use Rattle.subelements.specs.Subelements.{walk}
+use Rattle.events.specs.Transitions.{transitionBodyAt, sourceOf, targetOf, tookOf, reasonOf, resultOf, signalsOf}
 use Rattle.report_reader.specs.declared.Event.{Event}
 use Rattle.report_reader.specs.declared.Element.{Element}
 use Rattle.report_reader.specs.declared.Step.{Step}
-use Rattle.report_reader.specs.declared.Walk.{Walk}
 use Rattle.report_reader.specs.declared.Report.{Report}
 
 -- ---- one element
-
--- the n octets at a position
-abbrev pub part : List ℕ → ℕ → ℕ → List ℕ
-part s at n = take n (drop at s)
 
 abbrev pub noEvent : Event
 noEvent = record {
@@ -41,17 +38,19 @@ noEvent = record {
   signals = 0 ∷ 0 ∷ 0 ∷ 0 ∷ [];
 }
 
--- "9 octets of time and 21 of transition": source BSSID 6, target BSSID 6, transition time 2, reason 1, result 2, then the four signals
+-- "9 octets of time and 21 of transition"
 unfoldable pub eventAt : List ℕ → ℕ → Event
-eventAt s at = record {
-  time = part s at 9;
-  source = part s (at + 9) 6;
-  target = part s (at + 15) 6;
-  took = record { 0 = pairAt s (at + 21) };
-  reason = getD s (at + 23) 0;
-  result = pairAt s (at + 24);
-  signals = part s (at + 26) 4;
-}
+eventAt s at =
+    let body = transitionBodyAt s (at + 9) in
+    record {
+      time = timeAt s at;
+      source = sourceOf body;
+      target = targetOf body;
+      took = record { 0 = tookOf body };
+      reason = reasonOf body;
+      result = resultOf body;
+      signals = signalsOf body;
+    }
 
 -- the fields of an element with no transition, and with one
 abbrev pub plainElement : ℕ → ℕ → ℕ → ℕ → ℕ → Element
@@ -91,7 +90,7 @@ unfoldable pub transitionStep : List ℕ → ℕ → ℕ → Step
 transitionStep s at n =
     if eqb n 3 then plainStep s at n 0
     else if not (eqb n 33) then refusedStep badReportBody at
-    else if not (goodTime (part s (at + 5) 9)) then refusedStep badTime at
+    else if not (goodTime (timeAt s (at + 5))) then refusedStep badTime at
     else loggedStep s at
 
 -- "For status 0 of other event types the rest is kept unread."
@@ -128,53 +127,7 @@ stepAt s kind at =
     else if not (eqb (getD s at 0) (reportId kind)) then skippedStep (pieceEnd s at (length s))
     else ownReportStep s kind at (getD s (at + 1) 0)
 
--- ---- a frame
-
-abbrev pub atWalk : Refusal → ℕ → ℕ → Walk
-atWalk refusal at count = record { refusal = refusal; at = at; count = count }
-
--- behind one more element; a refused walk has nothing else
-unfoldable pub advanced : Walk → Step → Walk
-advanced w t =
-    if not (eqb (t .refusal .number) 0) then atWalk (t .refusal) 0 0
-    else if t .found then atWalk noRefusal (t .next .at) (w .count + 1)
-    else atWalk noRefusal (t .next .at) (w .count)
-
-abbrev pub moreReports : ℕ → Walk → Bool
-moreReports end w = eqb (w .refusal .number) 0 && ltb (w .at) end
-
-unfoldable pub validateStep : List ℕ → Kind → Walk → Walk
-validateStep s kind w = advanced w (stepAt s kind (w .at))
-
--- all elements from the front; the first refusal stops
-unfoldable pub validate : List ℕ → Kind → Walk
-validate s kind = repeatWhile (length s) (moreReports (length s)) (validateStep s kind) (atWalk noRefusal 3 0)
-
--- a refused frame: everything but the refusal is fixed
-abbrev pub refusedReport : ℕ → ℕ → Report
-refusedReport number place = record { refusal = refused number place; kind = EventKind; dialog = 0; count = 0 }
-
--- the walk's refusal, or the report
-unfoldable pub reportOf : Kind → ℕ → Walk → Report
-reportOf kind dialog w =
-    if not (eqb (w .refusal .number) 0) then refusedReport (w .refusal .number) (w .refusal .place)
-    else record { refusal = noRefusal; kind = kind; dialog = dialog; count = w .count }
-
-abbrev pub validatedReport : List ℕ → Kind → Report
-validatedReport s kind = reportOf kind (getD s 2 0) (validate s kind)
-
--- "Group destination" (11); "Frame under 3 or over 2,304 octets" (1); "Category not 10; action not .. 1 or 3 (reports)" (2)
-unfoldable pub readReport : List ℕ → List ℕ → Report
-readReport destination s =
-    if isGroup destination then refusedReport groupDestination 0
-    else if ltb (length s) shortestFrame then refusedReport badFrameLength 0
-    else if ltb longestFrame (length s) then refusedReport badFrameLength 0
-    else if not (eqb (getD s 0 0) category) then refusedReport badHeader 0
-    else if eqb (getD s 1 0) (reportAction EventKind) then validatedReport s EventKind
-    else if eqb (getD s 1 0) (reportAction Diagnostic) then validatedReport s Diagnostic
-    else refusedReport badHeader 0
-
--- ---- the elements that the cursor hands out, from the front to the end or to the first refusal
+-- ---- the elements of a frame, as the cursor hands them out, from the front to the end or to the first refusal
 
 -- an element's fields, and the octets behind its status
 pub record ElementRead : Type 0 where
@@ -182,7 +135,7 @@ pub record ElementRead : Type 0 where
   pub behind : List ℕ
 
 abbrev pub elementReadAt : List ℕ → Step → ElementRead
-elementReadAt s t = record { element = t .element; behind = part s (t .rest) (t .element .length) }
+elementReadAt s t = record { element = t .element; behind = octetsAt s (t .rest) (t .element .length) }
 
 pub record Reading : Type 0 where
   pub refusal : Refusal
@@ -192,6 +145,7 @@ pub record Reading : Type 0 where
 abbrev pub reading : Refusal → ℕ → List ElementRead → Reading
 reading refusal at elements = record { refusal = refusal; at = at; elements = elements }
 
+-- behind one more element; a refused reading has nothing else
 unfoldable pub gathered : List ℕ → Reading → Step → Reading
 gathered s w t =
     if not (eqb (t .refusal .number) 0) then reading (t .refusal) 0 []
@@ -206,3 +160,26 @@ readStep s kind w = gathered s w (stepAt s kind (w .at))
 
 unfoldable pub readElements : List ℕ → Kind → Reading
 readElements s kind = repeatWhile (length s) (unread (length s)) (readStep s kind) (reading noRefusal 3 [])
+
+-- ---- a frame
+
+-- a refused frame: everything but the refusal is fixed
+abbrev pub refusedReport : ℕ → ℕ → Report
+refusedReport number place = record { refusal = refused number place; kind = EventKind; dialog = 0; count = 0 }
+
+-- the reading's refusal, or the report
+unfoldable pub reportOf : Kind → ℕ → Reading → Report
+reportOf kind dialog w =
+    if not (eqb (w .refusal .number) 0) then refusedReport (w .refusal .number) (w .refusal .place)
+    else record { refusal = noRefusal; kind = kind; dialog = dialog; count = length (w .elements) }
+
+-- the kind that a frame is read as
+abbrev pub reportKind : List ℕ → Kind
+reportKind s = frameKind s (reportAction Diagnostic)
+
+-- "11, 1, 2, then each element": "Group destination" (11), then the frame's head
+unfoldable pub readReport : List ℕ → List ℕ → Report
+readReport destination s =
+    if isGroup destination then refusedReport groupDestination 0
+    else if not (eqb (frameCause s (reportAction (reportKind s))) 0) then refusedReport (frameCause s (reportAction (reportKind s))) 0
+    else reportOf (reportKind s) (getD s 2 0) (readElements s (reportKind s))

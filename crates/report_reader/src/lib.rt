@@ -1,15 +1,24 @@
 // Report frames, read (document 01, causes 11, 1, 2, then 4, 5, 17, 14 and 7): a frame is validated
 // whole, and a cursor hands out its elements.
+use events::transitions::body_at;
+use events::transitions::reason_of;
+use events::transitions::result_of;
+use events::transitions::signals_of;
+use events::transitions::source_of;
+use events::transitions::target_of;
+use events::transitions::took_of;
 use octets::Kind;
 use octets::Refusal;
 use octets::causes;
+use octets::frame_cause;
+use octets::frame_kind;
 use octets::good_time;
 use octets::is_group;
 use octets::numbers;
 use octets::octet;
-use octets::pair;
 use octets::piece_end;
 use octets::size;
+use octets::time_at;
 use subelements::Subelements;
 use subelements::walk_edges;
 use units::TimeUnits;
@@ -17,11 +26,10 @@ ghost use mathlib.Core.Path.{_≡_};
 ghost use mathlib.Core.Bool.{true};
 ghost use mathlib.Core.List.{List};
 ghost use Prim.Native.Nat.{ℕ, _+_, _^_, _≤_, _<_};
-ghost use lib.ListN.{length};
+ghost use lib.ListN.{length, getD};
 ghost use Rattle.report_reader.specs.declared.Step.{Step};
-ghost use Rattle.report_reader.specs.Reader.{part, noEvent, eventAt, refusedStep, skippedStep, plainStep, loggedStep, transitionStep, eventStep, walkedStep, diagnosticStep, ownReportStep, stepAt, atWalk, advanced, refusedReport, reportOf, validatedReport, readReport};
-ghost use Rattle.report_reader.specs.Reader.{validate as Reader·validate};
-ghost use Rattle.report_reader.specs.Internal.{verdictOf, transitionAt, foundElement, Fits, stepOf};
+ghost use Rattle.report_reader.specs.Reader.{noEvent, eventAt, refusedStep, skippedStep, plainStep, loggedStep, transitionStep, eventStep, walkedStep, diagnosticStep, ownReportStep, stepAt, Reading, gathered, readElements, refusedReport, reportOf, readReport};
+ghost use Rattle.report_reader.specs.Internal.{verdictOf, walkOf, transitionAt, foundElement, Fits, stepOf};
 
 // A reported transition; the signals are source RCPI, source RSNI, target RCPI and target RSNI.
 #[repr(C)]
@@ -65,7 +73,7 @@ pub struct Step {
 
 // What the validation of a frame sees of a step: of the element's fields only whether it holds a
 // transition and how many subelements. Next is the position behind it.
-pub struct Verdict {
+struct Verdict {
     pub refusal: Refusal,
     pub found: bool,
     pub logged: bool,
@@ -74,7 +82,7 @@ pub struct Verdict {
 }
 
 // How far a frame is validated: refused, or the next position and the number of elements.
-pub struct Walk {
+struct Walk {
     pub refusal: Refusal,
     pub at: usize,
     pub count: usize,
@@ -104,50 +112,20 @@ fn no_event() -> Event
     }
 }
 
-fn time_at(s: &[u8], at: usize) -> [u8; 9]
-    requires { ⌜ at + 9 ≤ length (now s) ⌝ }
-    ensures { λ r. ⌜ r ≡ part (now (s .entry)) at 9 ⌝ }
-{
-    [
-        s[at],
-        s[at + 1],
-        s[at + 2],
-        s[at + 3],
-        s[at + 4],
-        s[at + 5],
-        s[at + 6],
-        s[at + 7],
-        s[at + 8],
-    ]
-}
-
-fn bssid_at(s: &[u8], at: usize) -> [u8; 6]
-    requires { ⌜ at + 6 ≤ length (now s) ⌝ }
-    ensures { λ r. ⌜ r ≡ part (now (s .entry)) at 6 ⌝ }
-{
-    [s[at], s[at + 1], s[at + 2], s[at + 3], s[at + 4], s[at + 5]]
-}
-
-fn signals_at(s: &[u8], at: usize) -> [u8; 4]
-    requires { ⌜ at + 4 ≤ length (now s) ⌝ }
-    ensures { λ r. ⌜ r ≡ part (now (s .entry)) at 4 ⌝ }
-{
-    [s[at], s[at + 1], s[at + 2], s[at + 3]]
-}
-
 // The nine octets of time and the 21 of transition at a position.
 fn event_at(s: &[u8], at: usize) -> Event
-    requires { ⌜ at + 30 ≤ length (now s) ⌝ }
+    requires { ⌜ at ≤ length (now s) ⌝ }
     ensures { λ r. ⌜ r ≡ eventAt (now (s .entry)) at ⌝ }
 {
+    let body = body_at(s, at + 9);
     Event {
         time: time_at(s, at),
-        source: bssid_at(s, at + 9),
-        target: bssid_at(s, at + 15),
-        took: TimeUnits(pair(s[at + 21], s[at + 22])),
-        reason: s[at + 23],
-        result: pair(s[at + 24], s[at + 25]),
-        signals: signals_at(s, at + 26),
+        source: source_of(&body),
+        target: target_of(&body),
+        took: took_of(&body),
+        reason: reason_of(&body),
+        result: result_of(&body),
+        signals: signals_of(&body),
     }
 }
 
@@ -205,7 +183,8 @@ fn logged(at: usize) -> Verdict
     }
 }
 
-// A Successful report of event type 0, not of length 3.
+// A Successful report of event type 0, not of length 3. Its time is read of a part of the frame, whose
+// length is a constant: the compiler takes out the tests for the end.
 fn validate_transition(s: &[u8], at: usize, n: usize) -> Verdict
     requires { ⌜ (n ≡ 3 → ⊥) × (at + 2 + n ≤ length (now s)) ⌝ }
     ensures { λ r. ⌜ r ≡ verdictOf (transitionStep (now (s .entry)) at n) ⌝ }
@@ -213,7 +192,7 @@ fn validate_transition(s: &[u8], at: usize, n: usize) -> Verdict
     if n != 33 {
         return refused(causes::BAD_REPORT_BODY, at);
     }
-    if !good_time(time_at(s, at + 5)) {
+    if !good_time(time_at(&s[at + 5..at + 14], 0)) {
         return refused(causes::BAD_TIME, at);
     }
     logged(at)
@@ -286,13 +265,13 @@ fn validate_at(s: &[u8], kind: Kind, at: usize) -> Verdict
 
 // ---- its step, by the verdict
 
-// The transition at a position, where one is.
+// The transition at a position, where one is, read of a part for the same reason.
 fn transition_at(s: &[u8], at: usize, logged: bool) -> Event
     requires { ⌜ (logged ≡ true → at + 30 ≤ length (now s)) ⌝ }
     ensures { λ r. ⌜ r ≡ transitionAt (now (s .entry)) at logged ⌝ }
 {
     if logged {
-        return event_at(s, at);
+        return event_at(&s[at..at + 30], 0);
     }
     no_event()
 }
@@ -365,31 +344,42 @@ impl Cursor {
 
 // ---- a frame
 
-fn walk_of(refusal: Refusal, at: usize, count: usize) -> Walk
-    ensures { λ r. ⌜ r ≡ atWalk refusal at count ⌝ }
-{
-    Walk { refusal, at, count }
-}
-
 // Behind one more element.
 fn advance(w: Walk, v: Verdict) -> Walk
     requires { ⌜ w .count + 1 < 2 ^ 64 ⌝ }
-    ensures { λ r. ⌜ ((t : Step) → v ≡ verdictOf t → r ≡ advanced w t) ⌝ }
+    ensures { λ r. ⌜ ((s : List ℕ) (x : Reading) (t : Step) → w ≡ walkOf x → v ≡ verdictOf t → r ≡ walkOf (gathered s x t)) ⌝ }
 {
     let refusal = v.refusal;
     if refusal.number != 0 {
-        return walk_of(refusal, 0, 0);
+        return Walk {
+            refusal,
+            at: 0,
+            count: 0,
+        };
     }
     if v.found {
-        return walk_of(Refusal::none(), v.next, w.count + 1);
+        return Walk {
+            refusal: Refusal::none(),
+            at: v.next,
+            count: w.count + 1,
+        };
     }
-    walk_of(Refusal::none(), v.next, w.count)
+    Walk {
+        refusal: Refusal::none(),
+        at: v.next,
+        count: w.count,
+    }
 }
 
+// All elements from the front; the first refusal stops.
 fn validate(s: &[u8], kind: Kind) -> Walk
-    ensures { λ r. ⌜ r ≡ Reader·validate (now (s .entry)) kind ⌝ }
+    ensures { λ r. ⌜ r ≡ walkOf (readElements (now (s .entry)) kind) ⌝ }
 {
-    let mut w = walk_of(Refusal::none(), 3, 0);
+    let mut w = Walk {
+        refusal: Refusal::none(),
+        at: 3,
+        count: 0,
+    };
     while w.at < s.len() {
         w = advance(w, validate_at(s, kind, w.at));
         if w.refusal.number != 0 {
@@ -412,7 +402,7 @@ fn refused_report(number: u8, place: usize) -> Report
 
 // The walk's refusal, or the report.
 fn report_of(kind: Kind, dialog: u8, w: Walk) -> Report
-    ensures { λ r. ⌜ r ≡ reportOf kind dialog w ⌝ }
+    ensures { λ r. ⌜ ((x : Reading) → w ≡ walkOf x → r ≡ reportOf kind dialog x) ⌝ }
 {
     let refusal = w.refusal;
     if refusal.number != 0 {
@@ -428,33 +418,26 @@ fn report_of(kind: Kind, dialog: u8, w: Walk) -> Report
 
 // A frame of a kind, by its elements.
 fn validated(s: &[u8], kind: Kind) -> Report
-    ensures { λ r. ⌜ r ≡ validatedReport (now (s .entry)) kind ⌝ }
+    ensures { λ r. ⌜ r ≡ reportOf kind (getD (now (s .entry)) 2 0) (readElements (now (s .entry)) kind) ⌝ }
 {
     report_of(kind, octet(s, 2), validate(s, kind))
 }
 
-// Validates a whole frame, given its destination.
+// Validates a whole frame, given its destination. Each kind has a loop of its own, in which the kind is
+// a constant: `validate_at` is then inlined.
 pub fn read_report(destination: [u8; 6], s: &[u8]) -> Report
     ensures { λ r. ⌜ r ≡ readReport destination (now (s .entry)) ⌝ }
 {
     if is_group(destination) {
         return refused_report(causes::GROUP_DESTINATION, 0);
     }
-    if s.len() < numbers::SHORTEST_FRAME {
-        return refused_report(causes::BAD_FRAME_LENGTH, 0);
+    let kind = frame_kind(s, Kind::Diagnostic.report_action());
+    let cause = frame_cause(s, kind.report_action());
+    if cause != 0 {
+        return refused_report(cause, 0);
     }
-    if numbers::LONGEST_FRAME < s.len() {
-        return refused_report(causes::BAD_FRAME_LENGTH, 0);
+    match kind {
+        Kind::Event => validated(s, Kind::Event),
+        Kind::Diagnostic => validated(s, Kind::Diagnostic),
     }
-    if octet(s, 0) != numbers::CATEGORY {
-        return refused_report(causes::BAD_HEADER, 0);
-    }
-    let action = octet(s, 1);
-    if action == Kind::Event.report_action() {
-        return validated(s, Kind::Event);
-    }
-    if action == Kind::Diagnostic.report_action() {
-        return validated(s, Kind::Diagnostic);
-    }
-    refused_report(causes::BAD_HEADER, 0)
 }

@@ -1,6 +1,6 @@
 -- Document 01, "The frame program": the text that lists a request; every line ends in a line feed.
 -- Assumes nothing.
-use Prim.Native.Nat.{ℕ}
+use Prim.Native.Nat.{ℕ, _+_, _*_}
 use mathlib.Core.Bool.{not}
 use mathlib.Core.List.{List, _++_}
 use lib.ListN.{take}
@@ -12,11 +12,8 @@ use Rattle.octets.specs.declared.numbers.Kind.the-variants.{Event, Diagnostic}
 use Rattle.octets.specs.Numbers.{requestAction, requestId}
 use Rattle.requests.specs.declared.Element.{Element}
 use Rattle.requests.specs.declared.Request.{Request}
-use Rattle.texts.specs.Text.{text, field, refusalLine}
-
--- "action, dialog token, request elements"
-unfoldable pub frameLine : Kind → ℕ → ℕ → List ℕ
-frameLine kind dialog count = field "frame " (requestAction kind) ++ field " dialog " dialog ++ field " elements " count ++ text "\n"
+use Rattle.requests.specs.Elements.{elementCapacity}
+use Rattle.texts.specs.Text.{text, field, refusalLine, frameLine, elementHead}
 
 -- "limit (for 80 `timeout` and seconds)"
 unfoldable pub limitField : Kind → Element → List ℕ
@@ -26,7 +23,7 @@ limitField Diagnostic e = field " timeout " (e .timeout)
 -- "Then one line each: ID, token, type, limit .., subelements walked"
 unfoldable pub requestElementLine : Kind → Element → List ℕ
 requestElementLine kind e =
-    field "element " (requestId kind) ++ field " token " (e .token) ++ field " type " (e .ty) ++ limitField kind e ++ field " subs " (e .subs) ++ text "\n"
+    elementHead (requestId kind) (e .token) (e .ty) ++ limitField kind e ++ field " subs " (e .subs) ++ text "\n"
 
 abbrev pub requestElementLines : Kind → List Element → List ℕ
 requestElementLines kind es = pieces (λ (i : ℕ) (e : Element). requestElementLine kind e) 0 es
@@ -35,4 +32,11 @@ requestElementLines kind es = pieces (λ (i : ℕ) (e : Element). requestElement
 unfoldable pub requestListing : Request → List ℕ
 requestListing r =
     if not (eqb (r .refusal .number) 0) then refusalLine (r .refusal)
-    else frameLine (r .kind) (r .dialog) (r .count) ++ requestElementLines (r .kind) (take (r .count) (r .elements))
+    else frameLine (text "frame ") (requestAction (r .kind)) (r .dialog) (r .count) ++ requestElementLines (r .kind) (take (r .count) (r .elements))
+
+-- how many octets the line of an element and the whole have at most
+abbrev pub elementMost : ℕ
+elementMost = 56
+
+abbrev pub listingMost : ℕ
+listingMost = 51 + elementMost * elementCapacity

@@ -6,20 +6,22 @@ use requests::ELEMENT_CAPACITY;
 use requests::Element;
 use requests::Request;
 use requests::read_request;
+use texts::put_element_head;
+use texts::put_frame;
 use texts::put_octet;
 use texts::put_pair;
 use texts::put_refusal;
-use texts::put_size;
 ghost use mathlib.Core.Path.{_≡_};
+ghost use Prim.Native.Nat.{_*_};
 ghost use lib.ListN.{take};
 ghost use Rattle.laws.specs.Buffers.{wrote};
 ghost use Rattle.texts.specs.Text.{Puts, written, Within};
-ghost use Rattle.request_listing.specs.Listing.{frameLine, limitField, requestElementLine, requestElementLines, requestListing};
+ghost use Rattle.request_listing.specs.Listing.{limitField, requestElementLine, requestElementLines, requestListing, elementMost, listingMost};
 ghost use Rattle.requests.specs.Elements.{elementCapacity};
 ghost use Rattle.requests.specs.Requests.{readRequest};
 
-// What the longest listing has at most: 51 octets for the first line, 56 for each of eight elements.
-pub const LISTING: usize = 499;
+// What the longest listing has at most: 51 octets for the first line, 56 for each element.
+pub const LISTING: usize = 51 + 56 * ELEMENT_CAPACITY;
 
 fn put_limit(buf: &mut [u8], at: usize, kind: Kind, e: Element) -> usize
     ensures { λ r. ⌜ Puts 14 (limitField kind e) at (now (buf .entry)) r (now (buf .exit)) ⌝ }
@@ -32,11 +34,9 @@ fn put_limit(buf: &mut [u8], at: usize, kind: Kind, e: Element) -> usize
 
 // The line of an element.
 fn put_line(buf: &mut [u8], at: usize, kind: Kind, e: Element) -> usize
-    ensures { λ r. ⌜ Puts 56 (requestElementLine kind e) at (now (buf .entry)) r (now (buf .exit)) ⌝ }
+    ensures { λ r. ⌜ Puts elementMost (requestElementLine kind e) at (now (buf .entry)) r (now (buf .exit)) ⌝ }
 {
-    let next = put_octet(buf, at, b"element ", kind.request_id());
-    let next = put_octet(buf, next, b" token ", e.token);
-    let next = put_octet(buf, next, b" type ", e.ty);
+    let next = put_element_head(buf, at, kind.request_id(), e.token, e.ty);
     let next = put_limit(buf, next, kind, e);
     let next = put_pair(buf, next, b" subs ", e.subs);
     put(buf, next, b"\n")
@@ -50,7 +50,7 @@ fn put_lines(
     es: [Element; ELEMENT_CAPACITY],
     count: usize,
 ) -> usize
-    ensures { λ r. ⌜ Puts 448 (requestElementLines kind (take count es)) from (now (buf .entry)) r (now (buf .exit)) ⌝ }
+    ensures { λ r. ⌜ Puts (elementMost * elementCapacity) (requestElementLines kind (take count es)) from (now (buf .entry)) r (now (buf .exit)) ⌝ }
 {
     let mut at = from;
     let mut i: usize = 0;
@@ -65,19 +65,9 @@ fn put_lines(
     at
 }
 
-// The first line.
-fn put_frame(buf: &mut [u8], at: usize, kind: Kind, dialog: u8, count: usize) -> usize
-    ensures { λ r. ⌜ Puts 51 (frameLine kind dialog count) at (now (buf .entry)) r (now (buf .exit)) ⌝ }
-{
-    let next = put_octet(buf, at, b"frame ", kind.request_action());
-    let next = put_octet(buf, next, b" dialog ", dialog);
-    let next = put_size(buf, next, b" elements ", count);
-    put(buf, next, b"\n")
-}
-
 // Lists a request.
 fn put_listing(buf: &mut [u8], r: Request) -> usize
-    ensures { λ n. ⌜ Puts 499 (requestListing r) 0 (now (buf .entry)) n (now (buf .exit)) ⌝ }
+    ensures { λ n. ⌜ Puts listingMost (requestListing r) 0 (now (buf .entry)) n (now (buf .exit)) ⌝ }
 {
     if r.refusal.number != 0 {
         let refusal = r.refusal;
@@ -85,14 +75,14 @@ fn put_listing(buf: &mut [u8], r: Request) -> usize
     }
     let kind = r.kind;
     let elements = r.elements;
-    let next = put_frame(buf, 0, kind, r.dialog, r.count);
+    let next = put_frame(buf, 0, b"frame ", kind.request_action(), r.dialog, r.count);
     put_lines(buf, next, kind, elements, r.count)
 }
 
 // Reads a frame and lists it; the text's length.
 pub fn list_frame(frame: &[u8], buf: &mut [u8; LISTING]) -> usize
     ensures { λ n. ⌜ wrote n (now (buf .exit)) ≡ written (requestListing (readRequest elementCapacity (now (frame .entry)))) (now (buf .entry)) ⌝ }
-    ensures { λ n. ⌜ Within 499 n (now (buf .exit)) ⌝ }
+    ensures { λ n. ⌜ Within listingMost n (now (buf .exit)) ⌝ }
 {
     put_listing(buf, read_request(frame))
 }

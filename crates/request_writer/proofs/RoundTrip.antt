@@ -7,7 +7,7 @@ use mathlib.Core.List.{List, []}
 use lib.ListN.{length, take, drop, length-take}
 use lib.Seq.{take-append-seam}
 use lib.Dec.{ltb, eqb}
-use borrow.Author.Tests.{le-ltb, eq-eqb, eqb-true, eqb-false, ltb-false, not-true, not-false}
+use borrow.Author.Tests.{eq-eqb, eqb-true, eqb-false, ltb-false, not-true, not-false}
 use native.Mathlib.Nat.{zero-add}
 use native.Mathlib.Omega.{arith}
 use Rattle.laws.specs.Choice.{if_then_else_}
@@ -16,16 +16,17 @@ use Rattle.laws.proofs.Members.{all-take}
 use Rattle.laws.proofs.Choice.{either}
 use Rattle.laws.proofs.Walk.{start}
 use Rattle.octets.specs.declared.numbers.Kind.{Kind}
-use Rattle.octets.specs.declared.numbers.Kind.the-variants.{Event, Diagnostic}
 use Rattle.octets.specs.declared.refusals.Refusal.{Refusal}
 use Rattle.octets.specs.Refusals.{badFrameLength, tooManyElements, noElement}
 use Rattle.octets.specs.Numbers.{requestAction}
+use Rattle.octets.specs.Frames.{frameKind, frameCause}
+use Rattle.octets.proofs.FrameLaws.{head-accepted, head-kind}
 use Rattle.requests.specs.declared.Element.{Element}
 use Rattle.requests.specs.declared.Request.{Request}
 use Rattle.requests.specs.Elements.{elementCapacity, walkElements}
-use Rattle.requests.specs.Requests.{refusedRequest, lacksElement, requestOf, frameKind, headerCause, readRequest}
+use Rattle.requests.specs.Requests.{refusedRequest, lacksElement, requestOf, requestKind, headerCause, readRequest}
 use Rattle.request_writer.specs.declared.Written.{Written}
-use Rattle.request_writer.specs.Frames.{frameOctets}
+use Rattle.request_writer.specs.Frames.{elementsOctets, frameOctets}
 use Rattle.request_writer.specs.Writer.{placeBehind, refusedWritten, writtenLength, tokenRefusal, elementsAnswer, frameAnswer, writeAnswer, writeOctets, WriteOutcome, outcome, writeRequest}
 use Rattle.request_writer.specs.ReadBack.{ElementLengths, readBack, RequestRoundTrip, echoed}
 use Rattle.request_writer.proofs.Lengths.{elements-length}
@@ -109,18 +110,13 @@ module _ (kind : Kind) (dialog : ℕ) (es : List Element) (count : ℕ) (s : Lis
   unfolding writeOctets if_then_else_
   frame-written = rw (frame-length, eq-eqb _ 0 ok) (take-append-seam frame (drop (length frame) s))
 
-  frame-kind : frameKind frame ≡ kind
-  unfolding frameKind frameOctets if_then_else_
-  frame-kind = by kind
-    where
-      by : (k : Kind) → (if eqb (requestAction k) 2 then Diagnostic else Event) ≡ k
-      by Event = refl
-      by Diagnostic = refl
+  frame-kind : requestKind frame ≡ kind
+  unfolding frameOctets
+  frame-kind = head-kind dialog (elementsOctets kind (take count es)) requestAction refl kind
 
   frame-header : headerCause frame kind ≡ 0
   unfolding headerCause frameOctets if_then_else_
-  frame-header =
-      rw (le-ltb (length frame) 3 (omega arith), le-ltb 2304 (length frame) (omega (arith, frame-fits)), eq-eqb (requestAction kind) (requestAction kind) refl, a .dialog-token)
+  frame-header = rw (head-accepted dialog (elementsOctets kind (take count es)) (requestAction kind) (omega (arith, frame-fits)), a .dialog-token)
 
   frame-read : readRequest elementCapacity frame ≡ readBack kind dialog es count
   unfolding readRequest requestOf frameOctets readBack if_then_else_
@@ -164,7 +160,7 @@ module _ (kind : Kind) (dialog : ℕ) (es : List Element) (count : ℕ) (shapes 
 
   pub echo-read : (s y : List ℕ) (w : Written) (r : Request) → length s ≡ 267 → outcome w y ≡ writeRequest kind dialog es count s → r ≡ readRequest elementCapacity (take (w .length) y)
       → r ≡ echoed kind dialog es count
-  unfolding echoed frameKind headerCause readRequest if_then_else_
+  unfolding echoed frameKind frameCause headerCause readRequest if_then_else_
   echo-read s y w r long wrote read = rw (← long) (go (eqb (writeAnswer kind dialog es count (length s) .refusal .number) 0) refl)
     where
       len : w .length ≡ writeAnswer kind dialog es count (length s) .length

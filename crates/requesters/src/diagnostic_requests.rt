@@ -30,7 +30,7 @@ pub fn diagnostic_treatment(ty: u8) -> Treatment
 }
 
 // The first count of a request's elements; the other places are free.
-pub struct Diagnostics {
+struct Diagnostics {
     pub count: usize,
     pub elements: [Diagnostic; ELEMENT_CAPACITY],
 }

@@ -10,11 +10,13 @@ use Rattle.laws.proofs.Walk.{keeps}
 use Rattle.octets.specs.declared.numbers.Kind.{Kind}
 use Rattle.octets.specs.declared.numbers.Kind.the-variants.{Event, Diagnostic}
 use Rattle.octets.specs.Refusals.{noRefusal}
+use Rattle.octets.specs.Numbers.{requestAction}
+use Rattle.octets.specs.Frames.{frameCause}
 use Rattle.subelements.specs.declared.Subelements.{Subelements}
 use Rattle.subelements.specs.Subelements.{walked, wholeStep, subelementStep, walk}
 use Rattle.requests.specs.declared.Request.{Request}
 use Rattle.requests.specs.Elements.{subelementsOf, started, ElementWalk, withElement, ownRequestStep, elementStep, walkElements}
-use Rattle.requests.specs.Requests.{requestCauses, requestOf, frameKind, headerCause, readRequest}
+use Rattle.requests.specs.Requests.{requestCauses, requestOf, requestKind, headerCause, readRequest}
 
 -- none (number 0), or one of them
 abbrev causes : List ℕ
@@ -66,19 +68,22 @@ elements-listed most s kind = keeps Walked _ _ (λ w _. element-listed most s ki
 
 -- ---- the frame
 
+head-listed : (s : List ℕ) (action : ℕ) → Listed (frameCause s action)
+unfolding frameCause
+head-listed s action =
+    either Listed _ _ _ (λ _. among-test 1 causes refl)
+    (λ _. either Listed _ _ _ (λ _. among-test 1 causes refl)
+    (λ _. either Listed _ _ _ (λ _. among-test 2 causes refl) (λ _. either Listed _ _ _ (λ _. among-test 2 causes refl) (λ _. first))))
+
 header-listed : (s : List ℕ) (kind : Kind) → Listed (headerCause s kind)
 unfolding headerCause
 header-listed s kind =
-    either Listed _ _ _ (λ _. among-test 1 causes refl)
-    (λ _. either Listed _ _ _ (λ _. among-test 1 causes refl)
-    (λ _. either Listed _ _ _ (λ _. among-test 2 causes refl)
-    (λ _. either Listed _ _ _ (λ _. among-test 2 causes refl)
-    (λ _. either Listed _ _ _ (λ _. among-test 3 causes refl) (λ _. first)))))
+    either Listed _ _ _ (λ _. head-listed s (requestAction kind)) (λ _. either Listed _ _ _ (λ _. among-test 3 causes refl) (λ _. first))
 
 pub request-listed : (most : ℕ) (s : List ℕ) → Among (readRequest most s .refusal .number) (0 ∷ requestCauses)
 unfolding readRequest requestOf
 request-listed most s =
     let P : Request → Type 0 = λ (q : Request). Listed (q .refusal .number) in
-    either P _ _ _ (λ _. header-listed s (frameKind s))
-    (λ _. either P _ _ _ (λ _. elements-listed most s (frameKind s))
+    either P _ _ _ (λ _. header-listed s (requestKind s))
+    (λ _. either P _ _ _ (λ _. elements-listed most s (requestKind s))
     (λ _. either P _ _ _ (λ _. among-test 10 causes refl) (λ _. first)))

@@ -6,7 +6,7 @@ use mathlib.Core.Bool.{Bool, true, false}
 use mathlib.Core.List.{List}
 use lib.Dec.{ltb}
 use lib.ListN.{length, getD, set, take, drop, length-set, drop-of-length-le}
-use borrow.Author.Tests.{eq-eqb, ne-eqb, eqb-true, eqb-false, le-leb, lt-leb, lt-ltb, le-ltb, ltb-false}
+use borrow.Author.Tests.{eq-eqb, ne-eqb, eqb-true, eqb-false, le-leb, lt-leb, lt-ltb, le-ltb, not-false}
 use native.Mathlib.Omega.{arith}
 use Rattle.laws.specs.Members.{any}
 use Rattle.laws.specs.Choice.{if_then_else_}
@@ -16,8 +16,9 @@ use Rattle.laws.proofs.Arrays.{take-next}
 use Rattle.octets.specs.declared.numbers.Kind.{Kind}
 use Rattle.octets.specs.declared.numbers.Kind.the-variants.{Event, Diagnostic}
 use Rattle.octets.specs.Refusals.{noRefusal, elementPastEnd, tooManyElements, shortElement, badElementToken, noElement}
-use Rattle.octets.specs.Numbers.{requestId}
+use Rattle.octets.specs.Numbers.{requestAction, requestId}
 use Rattle.octets.specs.Elements.{pieceEnd}
+use Rattle.octets.proofs.FrameLaws.{head-length}
 use Rattle.octets.proofs.ElementLaws.{Ends, piece-ends}
 use Rattle.subelements.specs.declared.Condition.{Condition}
 use Rattle.subelements.specs.declared.Subelements.{Subelements}
@@ -103,7 +104,7 @@ pub header-length : (s : List ℕ) (kind : Kind) → headerCause s kind ≡ 0 �
 unfolding headerCause
 header-length s kind =
     let P : ℕ → Type 0 = λ (n : ℕ). n ≡ 0 → length s ≤ 2304 in
-    either P _ _ _ (λ _ e. absurd (omega arith)) (λ _. either P _ _ _ (λ _ e. absurd (omega arith)) (λ h _. ltb-false 2304 (length s) h))
+    either P _ _ _ (λ _. head-length s (requestAction kind)) (λ h _. head-length s (requestAction kind) (eqb-true _ 0 (not-false _ h)))
 
 -- ---- a turn of the walk's loop, by the tests that lead through it
 

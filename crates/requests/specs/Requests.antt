@@ -3,13 +3,14 @@
 use Prim.Native.Nat.{ℕ}
 use mathlib.Core.Bool.{Bool, false, not}
 use mathlib.Core.List.{List, [], _∷_}
-use lib.ListN.{length, getD}
-use lib.Dec.{ltb, eqb}
+use lib.ListN.{getD}
+use lib.Dec.{eqb}
 use Rattle.laws.specs.Choice.{if_then_else_}
 use Rattle.octets.specs.declared.numbers.Kind.{Kind}
 use Rattle.octets.specs.declared.numbers.Kind.the-variants.{Event, Diagnostic}
 use Rattle.octets.specs.Refusals.{refused, noRefusal, badFrameLength, badHeader, zeroDialogToken, elementPastEnd, shortElement, badElementToken, badSubelement, repeatedSubelement, tooManyElements, noElement}
-use Rattle.octets.specs.Numbers.{category, requestAction, shortestFrame, longestFrame}
+use Rattle.octets.specs.Numbers.{requestAction}
+use Rattle.octets.specs.Frames.{frameKind, frameCause}
 use Rattle.requests.specs.declared.Request.{Request}
 use Rattle.requests.specs.Elements.{blankElements, ElementWalk, walkElements}
 
@@ -34,22 +35,19 @@ requestOf kind dialog w =
     else if lacksElement kind (w .count) then refusedRequest noElement 0
     else record { refusal = noRefusal; kind = kind; dialog = dialog; count = w .count; elements = w .elements }
 
--- the kind that a frame is read as, by its action: a diagnostic's has its own; any other is held to the event's, by headerCause
-unfoldable pub frameKind : List ℕ → Kind
-frameKind s = if eqb (getD s 1 0) (requestAction Diagnostic) then Diagnostic else Event
+-- the kind that a frame is read as
+abbrev pub requestKind : List ℕ → Kind
+requestKind s = frameKind s (requestAction Diagnostic)
 
--- "Octets 0, 1, 2: category 10, action, dialog token": why they are refused, 1, 2 or 3 in this order; 0: they are not
+-- 1 or 2 by the frame's head, or "Request dialog token 0" (3); 0: not refused
 unfoldable pub headerCause : List ℕ → Kind → ℕ
 headerCause s kind =
-    if ltb (length s) shortestFrame then badFrameLength
-    else if ltb longestFrame (length s) then badFrameLength
-    else if not (eqb (getD s 0 0) category) then badHeader
-    else if not (eqb (getD s 1 0) (requestAction kind)) then badHeader
+    if not (eqb (frameCause s (requestAction kind)) 0) then frameCause s (requestAction kind)
     else if eqb (getD s 2 0) 0 then zeroDialogToken
     else 0
 
 -- "1, 2, 3, then elements from the front, .. and 10 at the end", of at most so many elements
 unfoldable pub readRequest : ℕ → List ℕ → Request
 readRequest most s =
-    if not (eqb (headerCause s (frameKind s)) 0) then refusedRequest (headerCause s (frameKind s)) 0
-    else requestOf (frameKind s) (getD s 2 0) (walkElements most s (frameKind s))
+    if not (eqb (headerCause s (requestKind s)) 0) then refusedRequest (headerCause s (requestKind s)) 0
+    else requestOf (requestKind s) (getD s 2 0) (walkElements most s (requestKind s))

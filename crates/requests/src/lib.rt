@@ -3,7 +3,8 @@
 use octets::Kind;
 use octets::Refusal;
 use octets::causes;
-use octets::numbers;
+use octets::frame_cause;
+use octets::frame_kind;
 use octets::octet;
 use octets::pair_at;
 use octets::piece_end;
@@ -17,7 +18,7 @@ ghost use Prim.Native.Nat.{_+_, _≤_, _<_};
 ghost use lib.ListN.{length, getD, take};
 ghost use Rattle.requests.specs.Elements.{elementCapacity, leastBody, limitAt, timeoutAt, tableOf, subelementsOf, elementOf, blankElement, blankElements, hasToken, zeroToken, badToken, walkElements};
 ghost use Rattle.requests.specs.Internal.{subelementsStart};
-ghost use Rattle.requests.specs.Requests.{refusedRequest, lacksElement, requestOf, frameKind, headerCause, readRequest};
+ghost use Rattle.requests.specs.Requests.{refusedRequest, lacksElement, requestOf, headerCause, readRequest};
 
 // The most elements that a request has.
 pub const ELEMENT_CAPACITY: usize = 8;
@@ -262,32 +263,14 @@ fn read_elements(s: &[u8], kind: Kind) -> Request
     }
 }
 
-// The kind of a frame by its action.
-fn kind_of(s: &[u8]) -> Kind
-    ensures { λ r. ⌜ r ≡ frameKind (now (s .entry)) ⌝ }
-{
-    if octet(s, 1) == Kind::Diagnostic.request_action() {
-        return Kind::Diagnostic;
-    }
-    Kind::Event
-}
-
 // Why the header of a frame of a kind is refused; 0 where it is not. One number for all of it, so that
 // a refused request is made at one place.
 fn header_cause(s: &[u8], kind: Kind) -> u8
     ensures { λ r. ⌜ r ≡ headerCause (now (s .entry)) kind ⌝ }
 {
-    if s.len() < numbers::SHORTEST_FRAME {
-        return causes::BAD_FRAME_LENGTH;
-    }
-    if numbers::LONGEST_FRAME < s.len() {
-        return causes::BAD_FRAME_LENGTH;
-    }
-    if octet(s, 0) != numbers::CATEGORY {
-        return causes::BAD_HEADER;
-    }
-    if octet(s, 1) != kind.request_action() {
-        return causes::BAD_HEADER;
+    let cause = frame_cause(s, kind.request_action());
+    if cause != 0 {
+        return cause;
     }
     if octet(s, 2) == 0 {
         return causes::ZERO_DIALOG_TOKEN;
@@ -299,7 +282,7 @@ fn header_cause(s: &[u8], kind: Kind) -> u8
 pub fn read_request(s: &[u8]) -> Request
     ensures { λ r. ⌜ r ≡ readRequest elementCapacity (now (s .entry)) ⌝ }
 {
-    let kind = kind_of(s);
+    let kind = frame_kind(s, Kind::Diagnostic.request_action());
     let cause = header_cause(s, kind);
     if cause != 0 {
         return refused(cause, 0);

@@ -1,4 +1,4 @@
--- Text, in ASCII: names, numbers, and the one line that every program prints of a refusal.
+-- Text, in ASCII: names, numbers, and the lines that several programs print.
 -- Assumes nothing.
 use Prim.Native.Nat.{ℕ, zero, suc, _+_, _-_, _/_, _%_, _≤_}
 use Prim.Native.Char.{code}
@@ -9,7 +9,7 @@ use mathlib.Core.List.{List, [], _∷_, _++_}
 use lib.Dec.{leb, ltb, eqb}
 use lib.ListN.{length, take}
 use Rattle.laws.specs.Choice.{if_then_else_}
-use Rattle.laws.specs.Buffers.{onto, WrittenBuffer, wrote, putAt}
+use Rattle.laws.specs.Buffers.{onto, pieces, WrittenBuffer, wrote, putAt}
 use Rattle.octets.specs.declared.refusals.Refusal.{Refusal}
 
 -- the octets of a text
@@ -45,14 +45,30 @@ named name n = name ++ decimal 1 n
 unfoldable pub hexed : List ℕ → ℕ → List ℕ
 hexed name x = name ++ hex x
 
+-- octets in hexadecimal, each behind the name
+abbrev pub hexes : List ℕ → List ℕ → List ℕ
+hexes name o = pieces (λ (i : ℕ) (x : ℕ). hexed name x) 0 o
+
 abbrev pub field : String → ℕ → List ℕ
 field name n = named (text name) n
 
--- ---- the line of a refusal
+-- ---- lines
 
 -- "A refusal prints one line, `refused 7 at 8`: number and place."
 unfoldable pub refusalLine : Refusal → List ℕ
 refusalLine r = field "refused " (r .number) ++ field " at " (r .place) ++ text "\n"
+
+-- how many octets it has at most: the number is an octet, the place has 64 bits
+abbrev pub refusalMost : ℕ
+refusalMost = 36
+
+-- `frame 0 dialog 7 elements 1`: "action, dialog token, request elements"; a report has its own name
+unfoldable pub frameLine : List ℕ → ℕ → ℕ → ℕ → List ℕ
+frameLine name action dialog count = named name action ++ field " dialog " dialog ++ field " elements " count ++ text "\n"
+
+-- `element 78 token 5 type 0`: "Then one line each: ID, token, type, .."
+unfoldable pub elementHead : ℕ → ℕ → ℕ → List ℕ
+elementHead id token ty = field "element " id ++ field " token " token ++ field " type " ty
 
 -- ---- what a function that writes text leaves
 

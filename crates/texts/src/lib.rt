@@ -1,16 +1,21 @@
-// Text in ASCII, into a buffer: names with numbers behind them, octets in hexadecimal, the line of a
-// refusal. Each function writes all of its text or nothing.
+// Text in ASCII, into a buffer: names with numbers behind them, octets in hexadecimal, and the lines
+// that several programs print.
 use octets::Refusal;
 use octets::less_one;
 use octets::put;
 ghost use mathlib.Core.Path.{_≡_};
 ghost use mathlib.Core.Bool.{_&&_};
 ghost use mathlib.Core.List.{_++_};
-ghost use Prim.Native.Nat.{_+_, _%_, _≤_, _<_};
+ghost use Prim.Native.Nat.{_+_, _*_, _%_, _≤_, _<_};
 ghost use lib.Dec.{eqb, leb};
 ghost use lib.ListN.{length};
 ghost use Rattle.laws.specs.Buffers.{wrote, putAt};
-ghost use Rattle.texts.specs.Text.{digit as Text·digit, decimal, named, hexed, refusalLine, written, Within};
+ghost use Rattle.texts.specs.Text.{digit as Text·digit, decimal, named, hexed, hexes, refusalLine, refusalMost, frameLine, elementHead, Puts, written, Within};
+
+// What the line of a refusal has at most.
+const REFUSAL: usize = 36;
+
+// ---- names and numbers; each function writes all of its text or nothing
 
 // One text and another behind the first `at` octets of a buffer; the place behind them.
 pub fn put_two(buf: &mut [u8], at: usize, front: &[u8], back: &[u8]) -> usize
@@ -108,22 +113,63 @@ pub fn put_hex(buf: &mut [u8], at: usize, name: &[u8], x: u8) -> usize
     put_two(buf, at, name, &text)
 }
 
+// Octets in hexadecimal, each behind a name.
+pub fn put_hexes(buf: &mut [u8], from: usize, name: &[u8], o: &[u8]) -> usize
+    ensures { λ r. ⌜ Puts ((length (now (name .entry)) + 2) * length (now (o .entry))) (hexes (now (name .entry)) (now (o .entry))) from (now (buf .entry)) r (now (buf .exit)) ⌝ }
+{
+    let mut at = from;
+    let mut i: usize = 0;
+    while i < o.len() {
+        at = put_hex(buf, at, name, o[i]);
+        i += 1;
+    }
+    at
+}
+
+// ---- lines
+
 // The line of a refusal into an array that has room for every one of them; its length.
-fn refusal_line(line: &mut [u8; 36], r: Refusal) -> usize
+fn refusal_line(line: &mut [u8; REFUSAL], r: Refusal) -> usize
     ensures { λ n. ⌜ wrote n (now (line .exit)) ≡ written (refusalLine r) (now (line .entry)) ⌝ }
-    ensures { λ n. ⌜ Within 36 n (now (line .exit)) ⌝ }
+    ensures { λ n. ⌜ Within refusalMost n (now (line .exit)) ⌝ }
 {
     let next = put_octet(line, 0, b"refused ", r.number);
     let next = put_size(line, next, b" at ", r.place);
     put(line, next, b"\n")
 }
 
-// The line of a refusal.
+// The line of a refusal; all of it or nothing.
 pub fn put_refusal(buf: &mut [u8], at: usize, r: Refusal) -> usize
     ensures { λ n. ⌜ wrote n (now (buf .exit)) ≡ putAt (refusalLine r) at (now (buf .entry)) ⌝ }
-    ensures { λ n. ⌜ length (refusalLine r) ≤ 36 ⌝ }
+    ensures { λ n. ⌜ length (refusalLine r) ≤ refusalMost ⌝ }
 {
-    let mut line = [0u8; 36];
+    let mut line = [0u8; REFUSAL];
     let end = refusal_line(&mut line, r);
     put(buf, at, &line[..end])
+}
+
+// The first line of a frame's listing.
+pub fn put_frame(
+    buf: &mut [u8],
+    at: usize,
+    name: &[u8],
+    action: u8,
+    dialog: u8,
+    count: usize,
+) -> usize
+    ensures { λ r. ⌜ Puts (length (now (name .entry)) + 45) (frameLine (now (name .entry)) action dialog count) at (now (buf .entry)) r (now (buf .exit)) ⌝ }
+{
+    let next = put_octet(buf, at, name, action);
+    let next = put_octet(buf, next, b" dialog ", dialog);
+    let next = put_size(buf, next, b" elements ", count);
+    put(buf, next, b"\n")
+}
+
+// What the line of an element starts with.
+pub fn put_element_head(buf: &mut [u8], at: usize, id: u8, token: u8, ty: u8) -> usize
+    ensures { λ r. ⌜ Puts 30 (elementHead id token ty) at (now (buf .entry)) r (now (buf .exit)) ⌝ }
+{
+    let next = put_octet(buf, at, b"element ", id);
+    let next = put_octet(buf, next, b" token ", token);
+    put_octet(buf, next, b" type ", ty)
 }

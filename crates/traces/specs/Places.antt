@@ -16,8 +16,11 @@ placeBehindRecord s at n =
     else at + n
 
 -- "no length in them over 4,096"
+abbrev pub longestLength : ℕ
+longestLength = 4096
+
 abbrev pub badLength : List ℕ → ℕ → Bool
-badLength s at = ltb 4096 (pairAt s at)
+badLength s at = ltb longestLength (pairAt s at)
 
 -- "length (2), octets"
 unfoldable pub octetsEnd : List ℕ → ℕ → ℕ

@@ -7,10 +7,12 @@ use lib.ListN.{length, getD}
 use lib.Dec.{eqb, ltb, leb}
 use Rattle.laws.specs.Choice.{if_then_else_}
 use Rattle.octets.specs.Numbers.{kindOf}
-use Rattle.octets.specs.Fields.{pairAt}
+use Rattle.octets.specs.Fields.{pairAt, octetsAt}
 use Rattle.octets.specs.Addresses.{addressAt}
+use Rattle.octets.specs.Times.{timeAt}
 use Rattle.units.specs.declared.Milliseconds.{Milliseconds}
 use Rattle.events.specs.declared.Transition.{Transition}
+use Rattle.traces.specs.declared.calls.Span.{Span}
 use Rattle.traces.specs.declared.calls.SetupCall.{SetupCall}
 use Rattle.traces.specs.declared.calls.FrameCall.{FrameCall}
 use Rattle.traces.specs.declared.calls.ReportCall.{ReportCall}
@@ -64,6 +66,10 @@ fieldsEnd s number at =
 unfoldable pub recordEnd : List ℕ → ℕ → ℕ
 recordEnd s at = if leb (length s) at then 0 else fieldsEnd s (getD s at 0) (at + 1)
 
+-- it ends behind its start
+abbrev pub wholeRecord : List ℕ → ℕ → Bool
+wholeRecord s at = ltb at (recordEnd s at)
+
 -- ---- the fields; octets past the end of the input are 0
 
 -- where they stand: behind the record's number; past the end of the input, at that end
@@ -73,24 +79,19 @@ fieldsOf s at = if leb (length s) at then length s else at + 1
 unfoldable pub millisecondsAt : List ℕ → ℕ → Milliseconds
 millisecondsAt s at = record { 0 = pairAt s at + 65536 * pairAt s (at + 2) }
 
--- the nine octets of a time
-unfoldable pub timeAt : List ℕ → ℕ → List ℕ
-timeAt s at =
-    getD s at 0 ∷ getD s (at + 1) 0 ∷ getD s (at + 2) 0 ∷ getD s (at + 3) 0 ∷ getD s (at + 4) 0 ∷ getD s (at + 5) 0 ∷ getD s (at + 6) 0 ∷ getD s (at + 7) 0 ∷ getD s (at + 8) 0 ∷ []
-
--- source RCPI, source RSNI, target RCPI, target RSNI
-unfoldable pub signalsAt : List ℕ → ℕ → List ℕ
-signalsAt s at = getD s at 0 ∷ getD s (at + 1) 0 ∷ getD s (at + 2) 0 ∷ getD s (at + 3) 0 ∷ []
-
 -- so many addresses, one behind the other
 unfoldable pub addressesAt : List ℕ → ℕ → ℕ → List (List ℕ)
 addressesAt s zero at = []
 addressesAt s (suc n) at = addressAt s at ∷ addressesAt s n (at + 6)
 
+-- "length (2), octets"
+unfoldable pub spanAt : List ℕ → ℕ → Span
+spanAt s at = record { from = at + 2; to = at + 2 + pairAt s at }
+
 unfoldable pub setupFields : List ℕ → ℕ → SetupCall
 setupFields s at =
-    let to = at + 2 + pairAt s at in
-    record { from = at + 2; to = to; count = getD s to 0; list = to + 1 }
+    let identity = spanAt s at in
+    record { identity = identity; count = getD s (identity .to) 0; list = identity .to + 1 }
 
 unfoldable pub transitionFields : List ℕ → ℕ → Transition
 transitionFields s at =
@@ -100,7 +101,7 @@ transitionFields s at =
       target = addressAt s (at + 19);
       reason = getD s (at + 25) 0;
       result = pairAt s (at + 26);
-      signals = signalsAt s (at + 28);
+      signals = octetsAt s (at + 28) 4;
       departure = millisecondsAt s (at + 32);
     }
 
@@ -110,8 +111,7 @@ frameFields s at =
       reading = millisecondsAt s at;
       destination = addressAt s (at + 4);
       source = addressAt s (at + 10);
-      from = at + 18;
-      to = at + 18 + pairAt s (at + 16);
+      frame = spanAt s (at + 16);
     }
 
 unfoldable pub reportFields : List ℕ → ℕ → ReportCall
@@ -139,4 +139,4 @@ writerFields s at =
     }
 
 unfoldable pub readerFields : List ℕ → ℕ → ReaderCall
-readerFields s at = record { destination = addressAt s at; from = at + 8; to = at + 8 + pairAt s (at + 6) }
+readerFields s at = record { destination = addressAt s at; frame = spanAt s (at + 6) }

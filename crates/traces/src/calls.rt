@@ -5,27 +5,33 @@ use octets::address_at;
 use octets::kind_of;
 use octets::octet;
 use octets::pair_at;
+use octets::read_at;
+use octets::time_at;
 use units::Milliseconds;
 ghost use mathlib.Core.Path.{_≡_};
-ghost use Prim.Native.Nat.{_≤_};
+ghost use Prim.Native.Nat.{_+_, _≤_};
 ghost use lib.ListN.{length};
-ghost use Rattle.traces.specs.Records.{fieldsOf, millisecondsAt, timeAt, signalsAt, addressesAt, setupFields, transitionFields, frameFields, reportFields, moveFields, writerFields, readerFields};
+ghost use Rattle.octets.specs.Fields.{octetsAt};
+ghost use Rattle.traces.specs.Records.{fieldsOf, millisecondsAt, addressesAt, spanAt, setupFields, transitionFields, frameFields, reportFields, moveFields, writerFields, readerFields};
 
-// The identity stands from one position to another; behind it are a number of addresses, and they.
-pub struct SetupCall {
+// Octets of the input, from one position to another.
+pub struct Span {
     pub from: usize,
     pub to: usize,
+}
+
+// Behind the identity are a number of addresses, and they.
+pub struct SetupCall {
+    pub identity: Span,
     pub count: u8,
     pub list: usize,
 }
 
-// The frame stands from one position to another.
 pub struct FrameCall {
     pub reading: Milliseconds,
     pub destination: [u8; 6],
     pub source: [u8; 6],
-    pub from: usize,
-    pub to: usize,
+    pub frame: Span,
 }
 
 // The buffer has a length, and is filled with one octet.
@@ -54,11 +60,9 @@ pub struct WriterCall {
     pub elements: usize,
 }
 
-// The frame stands from one position to another.
 pub struct ReaderCall {
     pub destination: [u8; 6],
-    pub from: usize,
-    pub to: usize,
+    pub frame: Span,
 }
 
 // The position of a record's fields; past the end of the input, that end.
@@ -81,36 +85,23 @@ fn milliseconds_at(s: &[u8], at: usize) -> Milliseconds
 }
 
 fn signals_at(s: &[u8], at: usize) -> [u8; 4]
-    ensures { λ r. ⌜ r ≡ signalsAt (now (s .entry)) at ⌝ }
+    ensures { λ r. ⌜ r ≡ octetsAt (now (s .entry)) at 4 ⌝ }
 {
-    if s.len() <= at {
-        return [0; 4];
-    }
-    [
-        octet(s, at),
-        octet(s, at + 1),
-        octet(s, at + 2),
-        octet(s, at + 3),
-    ]
+    let mut signals = [0u8; 4];
+    read_at(s, at, &mut signals);
+    signals
 }
 
-fn time_at(s: &[u8], at: usize) -> [u8; 9]
-    ensures { λ r. ⌜ r ≡ timeAt (now (s .entry)) at ⌝ }
+// A length and so many octets.
+fn span_at(s: &[u8], at: usize) -> Span
+    requires { ⌜ at ≤ length (now s) + 16 ⌝ }
+    ensures { λ r. ⌜ (r ≡ spanAt (now (s .entry)) at) × (r .to ≤ at + 65537) ⌝ }
 {
-    if s.len() <= at {
-        return [0; 9];
+    let from = at + 2;
+    Span {
+        from,
+        to: from + (pair_at(s, at) as usize),
     }
-    [
-        octet(s, at),
-        octet(s, at + 1),
-        octet(s, at + 2),
-        octet(s, at + 3),
-        octet(s, at + 4),
-        octet(s, at + 5),
-        octet(s, at + 6),
-        octet(s, at + 7),
-        octet(s, at + 8),
-    ]
 }
 
 // 255 addresses, one behind the other.
@@ -150,10 +141,10 @@ pub fn setup_at(s: &[u8], at: usize) -> SetupCall
     ensures { λ r. ⌜ r ≡ setupFields (now (s .entry)) (fieldsOf (now (s .entry)) at) ⌝ }
 {
     let at = fields(s, at);
-    let to = at + 2 + (pair_at(s, at) as usize);
+    let identity = span_at(s, at);
+    let to = identity.to;
     SetupCall {
-        from: at + 2,
-        to,
+        identity,
         count: octet(s, to),
         list: to + 1,
     }
@@ -179,13 +170,11 @@ pub fn frame_call_at(s: &[u8], at: usize) -> FrameCall
     ensures { λ r. ⌜ r ≡ frameFields (now (s .entry)) (fieldsOf (now (s .entry)) at) ⌝ }
 {
     let at = fields(s, at);
-    let from = at + 18;
     FrameCall {
         reading: milliseconds_at(s, at),
         destination: address_at(s, at + 4),
         source: address_at(s, at + 10),
-        from,
-        to: from + (pair_at(s, at + 16) as usize),
+        frame: span_at(s, at + 16),
     }
 }
 
@@ -231,10 +220,8 @@ pub fn reader_call_at(s: &[u8], at: usize) -> ReaderCall
     ensures { λ r. ⌜ r ≡ readerFields (now (s .entry)) (fieldsOf (now (s .entry)) at) ⌝ }
 {
     let at = fields(s, at);
-    let from = at + 8;
     ReaderCall {
         destination: address_at(s, at),
-        from,
-        to: from + (pair_at(s, at + 6) as usize),
+        frame: span_at(s, at + 6),
     }
 }

@@ -15,7 +15,7 @@ ghost use lib.ListN.{set};
 ghost use Rattle.traces.specs.Elements.{refusedElement, conditionEnd, conditionsEnd, badValue, limitOf, timeoutOf, tracedElementAt, withTraced, elementsAt};
 
 // One element, and where it ends; 0: refused.
-pub struct Recorded {
+struct Recorded {
     pub end: usize,
     pub element: Element,
 }

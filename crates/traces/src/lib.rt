@@ -10,6 +10,7 @@ pub use calls::MoveCall;
 pub use calls::ReaderCall;
 pub use calls::ReportCall;
 pub use calls::SetupCall;
+pub use calls::Span;
 pub use calls::WriterCall;
 pub use calls::addresses_at;
 pub use calls::frame_call_at;

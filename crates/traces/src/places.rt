@@ -14,7 +14,7 @@ ghost use Rattle.traces.specs.Records.{reportCallEnd, goodAction, writer
 const MOST: u16 = 4096;
 
 // Where so many octets from a position on end; behind what is refused, 0.
-pub fn behind(s: &[u8], at: usize, n: usize) -> usize
+pub(crate) fn behind(s: &[u8], at: usize, n: usize) -> usize
     ensures { λ r. ⌜ r ≡ Places·behind (now (s .entry)) at n ⌝ }
 {
     if at == 0 {

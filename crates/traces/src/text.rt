@@ -1,7 +1,8 @@
 // The lines of answers and lent buffers, each whole into an array that has room for every one of them.
+use octets::least;
 use octets::put;
 use requesters::Answer;
-use texts::put_hex;
+use texts::put_hexes;
 use texts::put_refusal;
 use texts::put_size;
 ghost use mathlib.Core.Path.{_≡_};
@@ -9,7 +10,7 @@ ghost use Prim.Native.Nat.{_+_, _*_};
 ghost use lib.ListN.{length, take};
 ghost use Rattle.laws.specs.Buffers.{wrote};
 ghost use Rattle.texts.specs.Text.{Puts, written, Within};
-ghost use Rattle.traces.specs.Lines.{numberLine, answerLine, traceRefusalLine, octetsText, bufferLine};
+ghost use Rattle.traces.specs.Lines.{numberLine, answerLine, traceRefusalLine, octetsText, bufferLine, lineMost, bufferLineMost};
 
 // What the line of an answer or of a trace that is refused has at most.
 pub const LINE: usize = 38;
@@ -18,7 +19,7 @@ pub const LINE: usize = 38;
 pub const BUFFER: usize = 4096;
 
 // `buffer `, those in hexadecimal, and a line feed.
-pub const BUFFER_LINE: usize = 8200;
+pub const BUFFER_LINE: usize = 7 + 2 * BUFFER + 1;
 
 fn put_line(buf: &mut [u8], name: &[u8], n: usize) -> usize
     ensures { λ r. ⌜ Puts (length (now (name .entry)) + 20 + 1) (numberLine (now (name .entry)) n) 0 (now (buf .entry)) r (now (buf .exit)) ⌝ }
@@ -30,7 +31,7 @@ fn put_line(buf: &mut [u8], name: &[u8], n: usize) -> usize
 // The line of an answer; its length.
 pub fn put_answer(line: &mut [u8; LINE], answer: Answer) -> usize
     ensures { λ r. ⌜ wrote r (now (line .exit)) ≡ written (answerLine answer) (now (line .entry)) ⌝ }
-    ensures { λ r. ⌜ Within 38 r (now (line .exit)) ⌝ }
+    ensures { λ r. ⌜ Within lineMost r (now (line .exit)) ⌝ }
 {
     match answer {
         Answer::Accepted => put(line, 0, b"accepted\n"),
@@ -43,31 +44,23 @@ pub fn put_answer(line: &mut [u8; LINE], answer: Answer) -> usize
 // The line of a trace that is refused at a place.
 pub fn put_trace_refusal(line: &mut [u8; LINE], place: usize) -> usize
     ensures { λ r. ⌜ wrote r (now (line .exit)) ≡ written (traceRefusalLine place) (now (line .entry)) ⌝ }
-    ensures { λ r. ⌜ Within 38 r (now (line .exit)) ⌝ }
+    ensures { λ r. ⌜ Within lineMost r (now (line .exit)) ⌝ }
 {
     put_line(line, b"trace refused at ", place)
 }
 
 // The first n octets in hexadecimal.
-fn put_octets(line: &mut [u8], from: usize, o: &[u8], n: usize) -> usize
-    ensures { λ r. ⌜ Puts (2 * length (now (o .entry))) (octetsText (take n (now (o .entry)))) from (now (line .entry)) r (now (line .exit)) ⌝ }
+fn put_octets(line: &mut [u8], at: usize, o: &[u8], n: usize) -> usize
+    ensures { λ r. ⌜ Puts (2 * length (now (o .entry))) (octetsText (take n (now (o .entry)))) at (now (line .entry)) r (now (line .exit)) ⌝ }
 {
-    let mut at = from;
-    let mut i: usize = 0;
-    while i < n {
-        if o.len() <= i {
-            return at;
-        }
-        at = put_hex(line, at, b"", o[i]);
-        i += 1;
-    }
-    at
+    let end = least(n, o.len());
+    put_hexes(line, at, b"", &o[..end])
 }
 
 // The line of the first n octets of a buffer.
 pub fn put_buffer(line: &mut [u8; BUFFER_LINE], buf: &[u8; BUFFER], n: usize) -> usize
     ensures { λ r. ⌜ wrote r (now (line .exit)) ≡ written (bufferLine (take n (now (buf .entry)))) (now (line .entry)) ⌝ }
-    ensures { λ r. ⌜ Within 8200 r (now (line .exit)) ⌝ }
+    ensures { λ r. ⌜ Within bufferLineMost r (now (line .exit)) ⌝ }
 {
     let next = put(line, 0, b"buffer ");
     let next = put_octets(line, next, buf, n);

@@ -2,6 +2,7 @@
 -- Assumes nothing.
 use mathlib.Core.Path.{sym}
 use lib.Seq.{length-take-le}
+use Rattle.replay.proofs.Laws.{leaves}
 use borrow.Author.Needs.{needs}
 use Rattle.replay.proofs.change_network.Statement.{statement}
 use Rattle.replay.proofs.change_network.Tie as tie
@@ -28,7 +29,7 @@ after-requires : tie.Need-after-requires
 after-requires c κs = search needs
 
 returns : tie.Need-returns
-returns c = search needs
+returns c = rw (← c .before .before .before .before .before .before .move-at .ensures, ← c .before .before .before .before .addresses-at .ensures) (leaves _ _ _ _ (c .after .ensures) (c .before .change-network .ensures .0))
 
 pub change-network-spec : {M : Type 1} → statement M
 change-network-spec =

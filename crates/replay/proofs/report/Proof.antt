@@ -1,7 +1,10 @@
 -- `replay::report` meets its contract.
 -- Assumes nothing.
 use mathlib.Core.Path.{sym}
+use lib.ListN.{replicate, length-replicate}
 use lib.Seq.{length-take-le}
+use Rattle.laws.proofs.Arrays.{take-within}
+use Rattle.traces.specs.Places.{longestLength}
 use borrow.Author.Needs.{needs}
 use Rattle.replay.proofs.report.Statement.{statement}
 use Rattle.replay.proofs.report.Tie as tie
@@ -28,7 +31,10 @@ print-buffer-requires : tie.Need-print-buffer-requires
 print-buffer-requires c κs = search needs
 
 returns : tie.Need-returns
-returns c = search needs
+returns c =
+    let call = c .before .before .before .before .before .before .before .report-call-at .result in
+    let lent = take-within (replicate longestLength (call .fill)) longestLength (c .before .before .before .before .before .least .result) (length-replicate longestLength (call .fill)) (call .length) (c .before .before .before .before .before .least .ensures) in
+    rw (← c .before .before .before .before .before .before .before .report-call-at .ensures) (rw lent at (c .before .before .before .report-into .ensures))
 
 pub report-spec : {M : Type 1} → statement M
 report-spec =

@@ -2,6 +2,7 @@
 -- Assumes nothing.
 use mathlib.Core.Path.{sym}
 use lib.Seq.{length-take-le}
+use Rattle.replay.proofs.Laws.{leaves}
 use borrow.Author.Needs.{needs}
 use Rattle.replay.proofs.set_up.Statement.{statement}
 use Rattle.replay.proofs.set_up.Tie as tie
@@ -31,7 +32,7 @@ after-requires : tie.Need-after-requires
 after-requires c κs = search needs
 
 returns : tie.Need-returns
-returns c = search needs
+returns c = rw (← c .before .before .before .before .before .before .before .setup-at .ensures, ← c .before .before .before .before .before .addresses-at .ensures, ← c .before .before .before .part .ensures) (leaves _ _ _ _ (c .after .ensures) (c .before .setup .ensures .0))
 
 pub set-up-spec : {M : Type 1} → statement M
 set-up-spec =

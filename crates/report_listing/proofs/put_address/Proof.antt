@@ -1,6 +1,8 @@
 -- `report_listing::put_address` meets its contract.
 -- Assumes nothing.
 use native.Mathlib.Omega.{arith}
+use lib.ListN.{drop, length-drop}
+use lib.Seq.{take-all}
 use Rattle.texts.proofs.PutLaws.{short, at-most, both}
 use Rattle.report_listing.specs.Listing.{addressText}
 use borrow.Author.Needs.{needs}
@@ -13,50 +15,20 @@ array-read-put-hex c = search needs
 put-hex-requires : tie.Need-put-hex-requires
 put-hex-requires c κs = search needs
 
-slice-aggregate-put-hex : tie.Need-slice-aggregate-put-hex
-slice-aggregate-put-hex c = search needs
+slice-aggregate-put-hexes : tie.Need-slice-aggregate-put-hexes
+slice-aggregate-put-hexes c = search needs
 
-array-read-put-hex-2 : tie.Need-array-read-put-hex-2
-array-read-put-hex-2 c = search needs
+sub-put-hexes : tie.Need-sub-put-hexes
+sub-put-hexes c = search needs
 
-put-hex-requires-2 : tie.Need-put-hex-requires-2
-put-hex-requires-2 c κs = search needs
+part-put-hexes-start : tie.Need-part-put-hexes-start
+part-put-hexes-start c = search needs
 
-slice-aggregate-put-hex-2 : tie.Need-slice-aggregate-put-hex-2
-slice-aggregate-put-hex-2 c = search needs
+part-put-hexes-end : tie.Need-part-put-hexes-end
+part-put-hexes-end c = search needs
 
-array-read-put-hex-3 : tie.Need-array-read-put-hex-3
-array-read-put-hex-3 c = search needs
-
-put-hex-requires-3 : tie.Need-put-hex-requires-3
-put-hex-requires-3 c κs = search needs
-
-slice-aggregate-put-hex-3 : tie.Need-slice-aggregate-put-hex-3
-slice-aggregate-put-hex-3 c = search needs
-
-array-read-put-hex-4 : tie.Need-array-read-put-hex-4
-array-read-put-hex-4 c = search needs
-
-put-hex-requires-4 : tie.Need-put-hex-requires-4
-put-hex-requires-4 c κs = search needs
-
-slice-aggregate-put-hex-4 : tie.Need-slice-aggregate-put-hex-4
-slice-aggregate-put-hex-4 c = search needs
-
-array-read-put-hex-5 : tie.Need-array-read-put-hex-5
-array-read-put-hex-5 c = search needs
-
-put-hex-requires-5 : tie.Need-put-hex-requires-5
-put-hex-requires-5 c κs = search needs
-
-slice-aggregate-put-hex-5 : tie.Need-slice-aggregate-put-hex-5
-slice-aggregate-put-hex-5 c = search needs
-
-array-read-put-hex-6 : tie.Need-array-read-put-hex-6
-array-read-put-hex-6 c = search needs
-
-put-hex-requires-6 : tie.Need-put-hex-requires-6
-put-hex-requires-6 c κs = search needs
+put-hexes-requires : tie.Need-put-hexes-requires
+put-hexes-requires c κs = search needs
 
 same-length : tie.Need-same-length
 same-length c = search needs
@@ -64,8 +36,9 @@ same-length c = search needs
 returns : tie.Need-returns
 unfolding addressText
 returns c =
-    at-most _ (omega arith)
-    (both (both (both (both (both (short (c .before .before .before .before .before .before .before .before .before .before .before .before .before .before .before .before .before .before .before .before .before .before .before .before .before .before .before .put-hex .ensures)) (short (c .before .before .before .before .before .before .before .before .before .before .before .before .before .before .before .before .before .before .before .before .before .before .put-hex2 .ensures))) (short (c .before .before .before .before .before .before .before .before .before .before .before .before .before .before .before .before .before .put-hex3 .ensures))) (short (c .before .before .before .before .before .before .before .before .before .before .before .before .put-hex4 .ensures))) (short (c .before .before .before .before .before .before .before .put-hex5 .ensures))) (short (c .before .before .put-hex6 .ensures)))
+    let a = c .before .before .before .before .before .before .before .before .before .before .before .before .before .args .t4 in
+    let n = length-drop 1 a in
+    at-most _ (omega (arith, n)) (both (short (c .before .before .before .before .before .before .before .before .before .put-hex .ensures)) (rw (take-all 5 (drop 1 a) (omega (arith, n))) at (c .before .before .put-hexes .ensures)))
 
 pub put-address-spec : {M : Type 1} → statement M
 put-address-spec =
@@ -73,20 +46,10 @@ put-address-spec =
     (tie.spec
     array-read-put-hex
     put-hex-requires
-    slice-aggregate-put-hex
-    array-read-put-hex-2
-    put-hex-requires-2
-    slice-aggregate-put-hex-2
-    array-read-put-hex-3
-    put-hex-requires-3
-    slice-aggregate-put-hex-3
-    array-read-put-hex-4
-    put-hex-requires-4
-    slice-aggregate-put-hex-4
-    array-read-put-hex-5
-    put-hex-requires-5
-    slice-aggregate-put-hex-5
-    array-read-put-hex-6
-    put-hex-requires-6
+    slice-aggregate-put-hexes
+    sub-put-hexes
+    part-put-hexes-start
+    part-put-hexes-end
+    put-hexes-requires
     same-length
     returns)

@@ -9,32 +9,17 @@ use Rattle.report_listing.proofs.put_date.Tie as tie
 slice-aggregate-put-time-field : tie.Need-slice-aggregate-put-time-field
 slice-aggregate-put-time-field c = search needs
 
-array-read-pair : tie.Need-array-read-pair
-array-read-pair c = search needs
-
-array-read-pair-2 : tie.Need-array-read-pair-2
-array-read-pair-2 c = search needs
-
-pair-requires : tie.Need-pair-requires
-pair-requires c κs = search needs
-
 put-time-field-requires : tie.Need-put-time-field-requires
 put-time-field-requires c κs = search needs
 
 slice-aggregate-put-time-octet : tie.Need-slice-aggregate-put-time-octet
 slice-aggregate-put-time-octet c = search needs
 
-array-read-put-time-octet : tie.Need-array-read-put-time-octet
-array-read-put-time-octet c = search needs
-
 put-time-octet-requires : tie.Need-put-time-octet-requires
 put-time-octet-requires c κs = search needs
 
 slice-aggregate-put-time-octet-2 : tie.Need-slice-aggregate-put-time-octet-2
 slice-aggregate-put-time-octet-2 c = search needs
-
-array-read-put-time-octet-2 : tie.Need-array-read-put-time-octet-2
-array-read-put-time-octet-2 c = search needs
 
 put-time-octet-requires-2 : tie.Need-put-time-octet-requires-2
 put-time-octet-requires-2 c κs = search needs
@@ -44,22 +29,17 @@ same-length c = search needs
 
 returns : tie.Need-returns
 unfolding dateText
-returns c = both (both (rw (c .before .before .before .before .before .before .before .before .before .before .before .before .before .pair .ensures) at (c .before .before .before .before .before .before .before .before .before .before .before .before .put-time-field .ensures)) (c .before .before .before .before .before .before .before .put-time-octet .ensures)) (c .before .before .put-time-octet2 .ensures)
+returns c = both (both (c .before .before .before .before .before .before .before .before .before .before .before .before .put-time-field .ensures) (c .before .before .before .before .before .before .before .put-time-octet .ensures)) (c .before .before .put-time-octet2 .ensures)
 
 pub put-date-spec : {M : Type 1} → statement M
 put-date-spec =
     tie.close
     (tie.spec
     slice-aggregate-put-time-field
-    array-read-pair
-    array-read-pair-2
-    pair-requires
     put-time-field-requires
     slice-aggregate-put-time-octet
-    array-read-put-time-octet
     put-time-octet-requires
     slice-aggregate-put-time-octet-2
-    array-read-put-time-octet-2
     put-time-octet-requires-2
     same-length
     returns)

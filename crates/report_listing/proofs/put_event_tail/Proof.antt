@@ -5,6 +5,7 @@ use borrow.Author.Tests.{eq-eqb, ne-eqb}
 use Rattle.laws.specs.Choice.{if_then_else_}
 use Rattle.texts.proofs.PutLaws.{at-most, nothing}
 use Rattle.report_listing.specs.Listing.{eventTail}
+use Rattle.report_listing.specs.Internal.{unreadMost}
 use borrow.Author.Needs.{needs}
 use Rattle.report_listing.proofs.put_event_tail.Statement.{statement}
 use Rattle.report_listing.proofs.put_event_tail.Tie as tie
@@ -31,7 +32,7 @@ returns-2 c = rw (c .before .before .before .before .before .before .if1 .left, 
 
 returns-3 : tie.Need-returns-3
 unfolding eventTail if_then_else_
-returns-3 c = rw (c .before .before .if1 .left, ne-eqb _ _ (c .if2 .left)) (at-most 26 (omega arith) (nothing _ _))
+returns-3 c = rw (c .before .before .if1 .left, ne-eqb _ _ (c .if2 .left)) (at-most unreadMost (omega arith) (nothing _ _))
 
 pub put-event-tail-spec : {M : Type 1} → statement M
 put-event-tail-spec =

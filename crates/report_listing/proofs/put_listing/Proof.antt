@@ -2,11 +2,11 @@
 -- Assumes nothing.
 use native.Mathlib.Omega.{arith}
 use borrow.Author.Tests.{eq-eqb, ne-eqb}
-use borrow.Author.Needs.{needs}
 use Rattle.laws.specs.Choice.{if_then_else_}
 use Rattle.texts.proofs.PutLaws.{short, at-most, both}
-use Rattle.report_listing.specs.Listing.{reportListing}
+use Rattle.report_listing.specs.Listing.{reportListing, listingMost}
 use Rattle.report_listing.proofs.Laws.{readable}
+use borrow.Author.Needs.{needs}
 use Rattle.report_listing.proofs.put_listing.Statement.{statement}
 use Rattle.report_listing.proofs.put_listing.Tie as tie
 
@@ -21,13 +21,19 @@ same-length c = search needs
 
 returns : tie.Need-returns
 unfolding reportListing if_then_else_
-returns c = rw (← c .before .before .before .before .before .before .before .read-report .ensures, ne-eqb _ _ (c .before .before .before .before .if1 .taken)) (at-most 32266 (omega arith) (short (c .before .before .put-refusal .ensures)))
+returns c = rw (← c .before .before .before .before .before .before .before .read-report .ensures, ne-eqb _ _ (c .before .before .before .before .if1 .taken)) (at-most listingMost (omega arith) (short (c .before .before .put-refusal .ensures)))
 
-put-report-requires : tie.Need-put-report-requires
-put-report-requires c κs = search needs
+slice-aggregate-put-frame : tie.Need-slice-aggregate-put-frame
+slice-aggregate-put-frame c = search needs
+
+report-action-requires : tie.Need-report-action-requires
+report-action-requires c κs = search needs
+
+put-frame-requires : tie.Need-put-frame-requires
+put-frame-requires c κs = search needs
 
 put-elements-requires : tie.Need-put-elements-requires
-put-elements-requires c κs = readable _ _ _ (c .before .before .before .before .before .before .before .before .read-report .ensures) (c .before .before .before .before .before .if1 .left) .fine
+put-elements-requires c κs = readable _ _ _ (c .before .before .before .before .before .before .before .before .before .before .read-report .ensures) (c .before .before .before .before .before .before .before .if1 .left) .fine
 
 same-length-2 : tie.Need-same-length-2
 same-length-2 c = search needs
@@ -35,8 +41,8 @@ same-length-2 c = search needs
 returns-2 : tie.Need-returns-2
 unfolding reportListing if_then_else_
 returns-2 c =
-    let few = readable _ _ _ (c .before .before .before .before .before .before .before .before .before .before .before .read-report .ensures) (c .before .before .before .before .before .before .before .before .if1 .left) .few in
-    rw (← c .before .before .before .before .before .before .before .before .before .before .before .read-report .ensures, eq-eqb _ _ (c .before .before .before .before .before .before .before .before .if1 .left)) (at-most 32266 (omega (arith, few)) (both (c .before .before .before .before .before .before .put-report .ensures) (c .before .before .put-elements .ensures)))
+    let few = readable _ _ _ (c .before .before .before .before .before .before .before .before .before .before .before .before .before .read-report .ensures) (c .before .before .before .before .before .before .before .before .before .before .if1 .left) .few in
+    rw (← c .before .before .before .before .before .before .before .before .before .before .before .before .before .read-report .ensures, eq-eqb _ _ (c .before .before .before .before .before .before .before .before .before .before .if1 .left)) (at-most listingMost (omega (arith, few)) (both (rw (c .before .before .before .before .before .before .before .report-action .ensures) at (c .before .before .before .before .before .before .put-frame .ensures)) (c .before .before .put-elements .ensures)))
 
 pub put-listing-spec : {M : Type 1} → statement M
 put-listing-spec =
@@ -46,7 +52,9 @@ put-listing-spec =
     put-refusal-requires
     same-length
     returns
-    put-report-requires
+    slice-aggregate-put-frame
+    report-action-requires
+    put-frame-requires
     put-elements-requires
     same-length-2
     returns-2)

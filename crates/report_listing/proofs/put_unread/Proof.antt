@@ -5,6 +5,7 @@ use borrow.Author.Tests.{eq-eqb, ne-eqb}
 use Rattle.laws.specs.Choice.{if_then_else_}
 use Rattle.texts.proofs.PutLaws.{short, at-most, nothing}
 use Rattle.report_listing.specs.Listing.{unreadText}
+use Rattle.report_listing.specs.Internal.{unreadMost}
 use borrow.Author.Needs.{needs}
 use Rattle.report_listing.proofs.put_unread.Statement.{statement}
 use Rattle.report_listing.proofs.put_unread.Tie as tie
@@ -17,7 +18,7 @@ put-size-requires c κs = search needs
 
 returns : tie.Need-returns
 unfolding unreadText if_then_else_
-returns c = rw (eq-eqb _ 0 (c .match .keys1)) (at-most 26 (omega arith) (nothing _ _))
+returns c = rw (eq-eqb _ 0 (c .match .keys1)) (at-most unreadMost (omega arith) (nothing _ _))
 
 same-length : tie.Need-same-length
 same-length c = search needs

@@ -1,8 +1,12 @@
 -- `report_reader::validate_transition` meets its contract: each return rewrites with the tests that led there.
 -- Assumes nothing.
+use Prim.Native.Nat.{_+_, _-_}
+use mathlib.Core.Path.{_∙_}
+use native.Mathlib.Omega.{arith}
 use borrow.Author.Tests.{eq-eqb, ne-eqb}
 use Rattle.laws.specs.Choice.{if_then_else_}
 use Rattle.report_reader.specs.Reader.{transitionStep}
+use Rattle.report_reader.proofs.Laws.{time-part}
 use borrow.Author.Needs.{needs}
 use Rattle.report_reader.proofs.validate_transition.Statement.{statement}
 use Rattle.report_reader.proofs.validate_transition.Tie as tie
@@ -17,6 +21,18 @@ returns c = rw (ne-eqb _ 3 (c .before .before .before .pre .0), ne-eqb _ 33 (c .
 add-time-at : tie.Need-add-time-at
 add-time-at c = search needs
 
+add-time-at-2 : tie.Need-add-time-at-2
+add-time-at-2 c = search needs
+
+sub-time-at : tie.Need-sub-time-at
+sub-time-at c = search needs
+
+part-time-at-start : tie.Need-part-time-at-start
+part-time-at-start c = search needs
+
+part-time-at-end : tie.Need-part-time-at-end
+part-time-at-end c = search needs
+
 time-at-requires : tie.Need-time-at-requires
 time-at-requires c κs = search needs
 
@@ -29,7 +45,9 @@ refused-requires-2 c κs = search needs
 returns-2 : tie.Need-returns-2
 unfolding transitionStep if_then_else_
 returns-2 c =
-    rw (ne-eqb _ 3 (c .before .before .before .before .before .before .pre .0), eq-eqb _ 33 (c .before .before .before .before .if1 .left), ← c .before .before .before .time-at .ensures, ← c .before .before .good-time .ensures, c .before .if2 .taken) (c .refused2 .ensures)
+    let a = c .before .before .before .before .before .before .before .args in
+    let t = c .before .before .before .time-at .ensures ∙ time-part (a .s .now) (a .at + 5) (a .at + 14 - (a .at + 5)) (omega arith) in
+    rw (ne-eqb _ 3 (c .before .before .before .before .before .before .before .pre .0), eq-eqb _ 33 (c .before .before .before .before .before .if1 .left), ← t, ← c .before .before .good-time .ensures, c .before .if2 .taken) (c .refused2 .ensures)
 
 logged-requires : tie.Need-logged-requires
 logged-requires c κs = search needs
@@ -37,7 +55,9 @@ logged-requires c κs = search needs
 returns-3 : tie.Need-returns-3
 unfolding transitionStep if_then_else_
 returns-3 c =
-    rw (ne-eqb _ 3 (c .before .before .before .before .before .before .pre .0), eq-eqb _ 33 (c .before .before .before .before .if1 .left), ← c .before .before .before .time-at .ensures, ← c .before .before .good-time .ensures, c .before .if2 .left) (c .logged .ensures (c .before .before .before .before .before .before .args .s .now))
+    let a = c .before .before .before .before .before .before .before .args in
+    let t = c .before .before .before .time-at .ensures ∙ time-part (a .s .now) (a .at + 5) (a .at + 14 - (a .at + 5)) (omega arith) in
+    rw (ne-eqb _ 3 (c .before .before .before .before .before .before .before .pre .0), eq-eqb _ 33 (c .before .before .before .before .before .if1 .left), ← t, ← c .before .before .good-time .ensures, c .before .if2 .left) (c .logged .ensures (a .s .now))
 
 pub validate-transition-spec : {M : Type 1} → statement M
 validate-transition-spec =
@@ -46,6 +66,10 @@ validate-transition-spec =
     refused-requires
     returns
     add-time-at
+    add-time-at-2
+    sub-time-at
+    part-time-at-start
+    part-time-at-end
     time-at-requires
     good-time-requires
     refused-requires-2

@@ -14,7 +14,7 @@ report-of-requires : tie.Need-report-of-requires
 report-of-requires c κs = search needs
 
 returns : tie.Need-returns
-returns c = rw (← c .before .before .octet .ensures, ← c .before .validate .ensures) (c .report-of .ensures)
+returns c = rw (← c .before .before .octet .ensures) (c .report-of .ensures _ (c .before .validate .ensures))
 
 pub validated-spec : {M : Type 1} → statement M
 validated-spec = tie.close (tie.spec octet-requires validate-requires report-of-requires returns)

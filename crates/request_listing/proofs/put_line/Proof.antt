@@ -6,26 +6,11 @@ use borrow.Author.Needs.{needs}
 use Rattle.request_listing.proofs.put_line.Statement.{statement}
 use Rattle.request_listing.proofs.put_line.Tie as tie
 
-slice-aggregate-put-octet : tie.Need-slice-aggregate-put-octet
-slice-aggregate-put-octet c = search needs
-
 request-id-requires : tie.Need-request-id-requires
 request-id-requires c κs = search needs
 
-put-octet-requires : tie.Need-put-octet-requires
-put-octet-requires c κs = search needs
-
-slice-aggregate-put-octet-2 : tie.Need-slice-aggregate-put-octet-2
-slice-aggregate-put-octet-2 c = search needs
-
-put-octet-requires-2 : tie.Need-put-octet-requires-2
-put-octet-requires-2 c κs = search needs
-
-slice-aggregate-put-octet-3 : tie.Need-slice-aggregate-put-octet-3
-slice-aggregate-put-octet-3 c = search needs
-
-put-octet-requires-3 : tie.Need-put-octet-requires-3
-put-octet-requires-3 c κs = search needs
+put-element-head-requires : tie.Need-put-element-head-requires
+put-element-head-requires c κs = search needs
 
 put-limit-requires : tie.Need-put-limit-requires
 put-limit-requires c κs = search needs
@@ -47,20 +32,14 @@ same-length c = search needs
 
 returns : tie.Need-returns
 unfolding requestElementLine
-returns c =
-    both (both (both (both (both (short (rw (c .before .before .before .before .before .before .before .before .before .before .before .before .before .before .before .before .before .before .before .before .before .before .before .before .before .before .before .request-id .ensures) at (c .before .before .before .before .before .before .before .before .before .before .before .before .before .before .before .before .before .before .before .before .before .before .before .before .before .before .put-octet .ensures))) (short (c .before .before .before .before .before .before .before .before .before .before .before .before .before .before .before .before .before .before .before .before .before .put-octet2 .ensures))) (short (c .before .before .before .before .before .before .before .before .before .before .before .before .before .before .before .before .put-octet3 .ensures))) (c .before .before .before .before .before .before .before .before .before .before .before .before .put-limit .ensures)) (short (c .before .before .before .before .before .before .before .put-pair .ensures))) (one (c .before .before .put .ensures))
+returns c = both (both (both (rw (c .before .before .before .before .before .before .before .before .before .before .before .before .before .before .before .before .before .request-id .ensures) at (c .before .before .before .before .before .before .before .before .before .before .before .before .before .before .before .before .put-element-head .ensures)) (c .before .before .before .before .before .before .before .before .before .before .before .before .put-limit .ensures)) (short (c .before .before .before .before .before .before .before .put-pair .ensures))) (one (c .before .before .put .ensures))
 
 pub put-line-spec : {M : Type 1} → statement M
 put-line-spec =
     tie.close
     (tie.spec
-    slice-aggregate-put-octet
     request-id-requires
-    put-octet-requires
-    slice-aggregate-put-octet-2
-    put-octet-requires-2
-    slice-aggregate-put-octet-3
-    put-octet-requires-3
+    put-element-head-requires
     put-limit-requires
     slice-aggregate-put-pair
     put-pair-requires

@@ -7,13 +7,13 @@ use lib.ListN.{length, length-take}
 use Rattle.laws.proofs.Arrays.{length-mapped}
 use Rattle.texts.proofs.PutLaws.{Lining, lining-start, lining-next, lining-end}
 use Rattle.requests.specs.Elements.{elementCapacity, pastElements}
-use Rattle.request_listing.specs.Listing.{requestElementLine}
+use Rattle.request_listing.specs.Listing.{requestElementLine, elementMost}
 use borrow.Author.Needs.{needs}
 use Rattle.request_listing.proofs.put_lines.Statement.{statement}
 use Rattle.request_listing.proofs.put_lines.Tie as tie
 
 abbrev Inv-loop : tie.InvT-loop
-Inv-loop buf₀ from kind count es at₀ i₀ buf at i = (length es ≡ elementCapacity) × Lining (requestElementLine kind) 56 es count from buf₀ buf at i
+Inv-loop buf₀ from kind count es at₀ i₀ buf at i = (length es ≡ elementCapacity) × Lining (requestElementLine kind) elementMost es count from buf₀ buf at i
 
 abbrev μ-loop : tie.MeasureT-loop
 μ-loop buf₀ from kind count es at₀ i₀ buf at i = count - i

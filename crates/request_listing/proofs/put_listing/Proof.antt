@@ -4,7 +4,7 @@ use native.Mathlib.Omega.{arith}
 use borrow.Author.Tests.{eq-eqb, ne-eqb}
 use Rattle.laws.specs.Choice.{if_then_else_}
 use Rattle.texts.proofs.PutLaws.{short, at-most, both}
-use Rattle.request_listing.specs.Listing.{requestListing}
+use Rattle.request_listing.specs.Listing.{requestListing, listingMost}
 use borrow.Author.Needs.{needs}
 use Rattle.request_listing.proofs.put_listing.Statement.{statement}
 use Rattle.request_listing.proofs.put_listing.Tie as tie
@@ -17,7 +17,13 @@ same-length c = search needs
 
 returns : tie.Need-returns
 unfolding requestListing if_then_else_
-returns c = rw (ne-eqb _ _ (c .before .before .before .before .before .if1 .taken)) (at-most 499 (omega arith) (short (c .before .before .put-refusal .ensures)))
+returns c = rw (ne-eqb _ _ (c .before .before .before .before .before .if1 .taken)) (at-most listingMost (omega arith) (short (c .before .before .put-refusal .ensures)))
+
+slice-aggregate-put-frame : tie.Need-slice-aggregate-put-frame
+slice-aggregate-put-frame c = search needs
+
+request-action-requires : tie.Need-request-action-requires
+request-action-requires c κs = search needs
 
 put-frame-requires : tie.Need-put-frame-requires
 put-frame-requires c κs = search needs
@@ -30,7 +36,7 @@ same-length-2 c = search needs
 
 returns-2 : tie.Need-returns-2
 unfolding requestListing if_then_else_
-returns-2 c = rw (eq-eqb _ _ (c .before .before .before .before .before .before .before .before .before .if1 .left)) (both (c .before .before .before .before .before .before .put-frame .ensures) (c .before .before .put-lines .ensures))
+returns-2 c = rw (eq-eqb _ _ (c .before .before .before .before .before .before .before .before .before .before .before .if1 .left)) (both (rw (c .before .before .before .before .before .before .before .request-action .ensures) at (c .before .before .before .before .before .before .put-frame .ensures)) (c .before .before .put-lines .ensures))
 
 pub put-listing-spec : {M : Type 1} → statement M
 put-listing-spec =
@@ -39,6 +45,8 @@ put-listing-spec =
     put-refusal-requires
     same-length
     returns
+    slice-aggregate-put-frame
+    request-action-requires
     put-frame-requires
     put-lines-requires
     same-length-2

@@ -8,9 +8,6 @@ use Rattle.traces.proofs.calls.frame_call_at.Tie as tie
 fields-requires : tie.Need-fields-requires
 fields-requires c κs = search needs
 
-add-from : tie.Need-add-from
-add-from c = search needs
-
 milliseconds-at-requires : tie.Need-milliseconds-at-requires
 milliseconds-at-requires c κs = search needs
 
@@ -26,36 +23,26 @@ add-address-at-2 c = search needs
 address-at-requires-2 : tie.Need-address-at-requires-2
 address-at-requires-2 c κs = search needs
 
-add-pair-at : tie.Need-add-pair-at
-add-pair-at c = search needs
+add-span-at : tie.Need-add-span-at
+add-span-at c = search needs
 
-pair-at-requires : tie.Need-pair-at-requires
-pair-at-requires c κs = search needs
-
-cast-t12 : tie.Need-cast-t12
-cast-t12 c = search needs
-
-add-t13 : tie.Need-add-t13
-add-t13 c = search needs
+span-at-requires : tie.Need-span-at-requires
+span-at-requires c κs = search needs
 
 returns : tie.Need-returns
 unfolding frameFields
-returns c =
-    rw (← c .before .before .before .before .fields .ensures .0, ← c .before .before .before .milliseconds-at .ensures, ← c .before .before .address-at .ensures, ← c .before .address-at2 .ensures, ← c .pair-at .ensures)
+returns c = rw (← c .before .before .before .before .fields .ensures .0, ← c .before .before .before .milliseconds-at .ensures, ← c .before .before .address-at .ensures, ← c .before .address-at2 .ensures, ← c .span-at .ensures .0)
 
 pub frame-call-at-spec : {M : Type 1} → statement M
 frame-call-at-spec =
     tie.close
     (tie.spec
     fields-requires
-    add-from
     milliseconds-at-requires
     add-address-at
     address-at-requires
     add-address-at-2
     address-at-requires-2
-    add-pair-at
-    pair-at-requires
-    cast-t12
-    add-t13
+    add-span-at
+    span-at-requires
     returns)

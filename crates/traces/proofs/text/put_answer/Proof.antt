@@ -2,7 +2,7 @@
 -- Assumes nothing.
 use native.Mathlib.Omega.{arith}
 use Rattle.texts.proofs.PutLaws.{one, short, at-most, whole}
-use Rattle.traces.specs.Lines.{answerLine}
+use Rattle.traces.specs.Lines.{answerLine, lineMost}
 use borrow.Author.Needs.{needs}
 use Rattle.traces.proofs.text.put_answer.Statement.{statement}
 use Rattle.traces.proofs.text.put_answer.Tie as tie
@@ -42,19 +42,19 @@ put-refusal-requires c κs = search needs
 
 returns : tie.Need-returns
 unfolding answerLine
-returns c = rw (c .before .before .before .enum-told .given .1) (whole (at-most 38 (omega arith) (one (c .put .ensures))) (search needs))
+returns c = rw (c .before .before .before .enum-told .given .1) (whole (at-most lineMost (omega arith) (one (c .put .ensures))) (search needs))
 
 returns-2 : tie.Need-returns-2
 unfolding answerLine
-returns-2 c = rw (c .before .before .before .enum-told2 .given .1) (whole (at-most 38 (omega arith) (one (c .put2 .ensures))) (search needs))
+returns-2 c = rw (c .before .before .before .enum-told2 .given .1) (whole (at-most lineMost (omega arith) (one (c .put2 .ensures))) (search needs))
 
 returns-3 : tie.Need-returns-3
 unfolding answerLine
-returns-3 c = rw (c .before .before .before .before .answer .given .1) (whole (at-most 38 (omega arith) (c .put-line .ensures)) (search needs))
+returns-3 c = rw (c .before .before .before .before .answer .given .1) (whole (at-most lineMost (omega arith) (c .put-line .ensures)) (search needs))
 
 returns-4 : tie.Need-returns-4
 unfolding answerLine
-returns-4 c = rw (c .before .before .before .answer2 .given .1) (whole (at-most 38 (omega arith) (short (c .put-refusal .ensures))) (search needs))
+returns-4 c = rw (c .before .before .before .answer2 .given .1) (whole (at-most lineMost (omega arith) (short (c .put-refusal .ensures))) (search needs))
 
 pub put-answer-spec : {M : Type 1} → statement M
 put-answer-spec =

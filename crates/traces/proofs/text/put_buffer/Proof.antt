@@ -1,7 +1,7 @@
 -- `traces::text::put_buffer` meets its contract.
 -- Assumes nothing.
 use Rattle.texts.proofs.PutLaws.{one, both, at-most, whole}
-use Rattle.traces.specs.Lines.{bufferLine}
+use Rattle.traces.specs.Lines.{bufferLine, bufferLineMost}
 use borrow.Author.Needs.{needs}
 use Rattle.traces.proofs.text.put_buffer.Statement.{statement}
 use Rattle.traces.proofs.text.put_buffer.Tie as tie
@@ -23,7 +23,7 @@ put-requires-2 c κs = search needs
 
 returns : tie.Need-returns
 unfolding bufferLine
-returns c = whole (at-most 8200 (search needs) (both (both (one (c .before .before .before .before .before .before .put .ensures)) (c .before .before .before .put-octets .ensures)) (one (c .put2 .ensures)))) (search needs)
+returns c = whole (at-most bufferLineMost (search needs) (both (both (one (c .before .before .before .before .before .before .put .ensures)) (c .before .before .before .put-octets .ensures)) (one (c .put2 .ensures)))) (search needs)
 
 pub put-buffer-spec : {M : Type 1} → statement M
 put-buffer-spec =

@@ -1,0 +1,74 @@
+-- What the records of a trace call, in the model's words: the station after each, and how far they reach.
+-- Assumes nothing.
+use Prim.Native.Nat.{ℕ, _-_}
+use mathlib.Core.List.{List, []}
+use lib.Dec.{eqb}
+use lib.ListN.{length, getD, take, drop, replicate}
+use Rattle.laws.specs.Choice.{if_then_else_}
+use Rattle.laws.specs.Walk.{repeatWhile}
+use Rattle.model.specs.Model.{standard, Address, Station, Result, Call, clock, logging, frame, report, roam, change}
+use Rattle.model.specs.Stations.{setup, step}
+use Rattle.traces.specs.declared.calls.Span.{Span}
+use Rattle.traces.specs.Places.{longestLength}
+use Rattle.traces.specs.Records.{recordEnd, wholeRecord, fieldsOf, millisecondsAt, addressesAt, setupFields, transitionFields, frameFields, reportFields, moveFields}
+
+-- ---- the call of a record
+
+-- the octets of a span, as far as the input has them
+abbrev pub spanned : List ℕ → Span → List ℕ
+spanned s p = take (p .to - p .from) (drop (p .from) s)
+
+-- so many addresses, as a record counts them in one octet
+abbrev pub listAt : List ℕ → ℕ → ℕ → List Address
+listAt s n at = take n (addressesAt s 255 at)
+
+abbrev pub setupAt : List ℕ → ℕ → Result
+setupAt s at = let c = setupFields s (fieldsOf s at) in setup standard (spanned s (c .identity)) (listAt s (c .count) (c .list))
+
+abbrev pub clockAt : List ℕ → ℕ → Call
+clockAt s at = clock (millisecondsAt s (fieldsOf s at) .0)
+
+abbrev pub loggingAt : List ℕ → ℕ → Call
+loggingAt s at = logging (millisecondsAt s (fieldsOf s at) .0) (transitionFields s (fieldsOf s at))
+
+abbrev pub frameAt : List ℕ → ℕ → Call
+frameAt s at = let c = frameFields s (fieldsOf s at) in frame (c .reading .0) (c .destination) (c .source) (spanned s (c .frame))
+
+-- "buffer length (2), the octet that fills the buffer (1)"
+abbrev pub reportAt : List ℕ → ℕ → Call
+reportAt s at = let c = reportFields s (fieldsOf s at) in report (c .reading .0) (c .requester) (c .kind) (take (c .length) (replicate longestLength (c .fill)))
+
+abbrev pub roamAt : List ℕ → ℕ → Call
+roamAt s at = let c = moveFields s (fieldsOf s at) in roam (c .reading .0) (listAt s (c .count) (c .list))
+
+abbrev pub changeAt : List ℕ → ℕ → Call
+changeAt s at = let c = moveFields s (fieldsOf s at) in change (c .reading .0) (listAt s (c .count) (c .list))
+
+-- ---- a trace
+
+-- the station after a record, by its number; the console's records touch no station
+unfoldable pub stationAfter : List ℕ → ℕ → Station → Station
+stationAfter s at g =
+    if eqb (getD s at 0) 0 then setupAt s at .station
+    else if eqb (getD s at 0) 1 then step standard g (clockAt s at) .station
+    else if eqb (getD s at 0) 2 then step standard g (loggingAt s at) .station
+    else if eqb (getD s at 0) 3 then step standard g (frameAt s at) .station
+    else if eqb (getD s at 0) 4 then step standard g (reportAt s at) .station
+    else if eqb (getD s at 0) 5 then step standard g (roamAt s at) .station
+    else if eqb (getD s at 0) 6 then step standard g (changeAt s at) .station
+    else g
+
+-- how far the records reach, and the station after them
+pub record Replay : Type 0 where
+  pub at : ℕ
+  pub station : Station
+
+abbrev pub replayed : ℕ → Station → Replay
+replayed at g = record { at = at; station = g }
+
+unfoldable pub replayStep : List ℕ → Replay → Replay
+replayStep s w = replayed (recordEnd s (w .at)) (stationAfter s (w .at) (w .station))
+
+-- the records from the front, while they are whole, on a station that nobody set up
+unfoldable pub replayTrace : List ℕ → Replay
+replayTrace s = repeatWhile (length s) (λ (w : Replay). wholeRecord s (w .at)) (replayStep s) (replayed 0 (setup standard [] [] .station))
