@@ -57,17 +57,17 @@ contentFrame kind dialog xs = category ∷ reportAction kind ∷ dialog ∷ piec
 -- an event's fields, each as logging took it. Of a transition "the age between the two in TUs is the transition time"; of an EAP method the
 -- octets of its length
 abbrev pub reportedEvent : ℕ → LoggedEvent → ReportedEvent
-reportedEvent reading (transition t) =
+reportedEvent now (transition t) =
     transitionReport (record {
       time = t .time;
       source = t .source;
       target = t .target;
-      took = record { 0 = tusOf (age reading (t .departure .0)) };
+      took = record { 0 = tusOf (age now (t .departure .0)) };
       reason = t .reason;
       result = t .result;
       signals = t .signals;
     })
-reportedEvent reading (rsna e rsn) =
+reportedEvent now (rsna e rsn) =
     rsnaReport (record {
       time = e .time;
       target = e .target;
@@ -75,9 +75,9 @@ reportedEvent reading (rsna e rsn) =
       method = bodyAt (e .method) 0 (methodLength (getD (e .method) 0 0));
       result = e .result;
       rsn = octetsAt rsn 0 rsnLength;
-      rsn_length = length rsn;
+      size = length rsn;
     })
-reportedEvent reading (peerLink e) =
+reportedEvent now (peerLink e) =
     peerLinkReport (record {
       time = e .time;
       peer = e .peer;

@@ -38,7 +38,7 @@ rsnaIn o =
       method = methodOf body;
       result = rsnaResultOf body;
       rsn = octetsAt (rsnElementOf body) 0 rsnLength;
-      rsn_length = length (rsnElementOf body);
+      size = length (rsnElementOf body);
     }
 
 unfoldable pub peerLinkIn : List ℕ → PeerLinkReport

@@ -31,8 +31,8 @@ pub struct TransitionReport {
     pub signals: [u8; 4],
 }
 
-// A reported RSNA event; the EAP method is 0 past its length, the RSN element in its places with the
-// number of its octets.
+// A reported RSNA event; the EAP method is 0 past its length. The RSN element stands in its places, and
+// size says how many octets it has: none where it is absent.
 #[repr(C)]
 pub struct RsnaReport {
     pub time: [u8; 9],
@@ -41,7 +41,7 @@ pub struct RsnaReport {
     pub method: [u8; 8],
     pub result: u8,
     pub rsn: [u8; RSN_LENGTH],
-    pub rsn_length: usize,
+    pub size: usize,
 }
 
 // A reported peer-to-peer link event.
@@ -101,7 +101,7 @@ pub fn rsna_in(o: &[u8]) -> RsnaReport
         method: rsna_events::method_of(body),
         result: rsna_events::result_of(body),
         rsn,
-        rsn_length: element.len(),
+        size: element.len(),
     }
 }
 
