@@ -176,20 +176,21 @@ stands-found s at (is-logged n few h) e = refl
 pub logged-found : (s : List ℕ) (kind : Kind) (at : ℕ) (t : Step) → t ≡ stepAt s kind at → t .element .logged ≡ true → t ≡ foundStep (t .element) (t .rest) (t .next .at)
 logged-found s kind at t e = rw e (stands-found s at (stands s kind at))
 
--- ---- and an element that was found takes five octets at least, one with an event 26
+-- ---- and an element that was found takes five octets at least, one with an event 26, and those behind its status stand in the frame
 
-pub record Extent (at : ℕ) (t : Step) : Type 0 where
+pub record Extent (s : List ℕ) (at : ℕ) (t : Step) : Type 0 where
   pub least : at + 5 ≤ t .next .at
+  pub within : t .rest + t .element .length ≤ length s
   pub event : t .element .logged ≡ true → at + 26 ≤ t .next .at
 
-stands-extends : (s : List ℕ) (at : ℕ) {t : Step} → Stands s at t → t .found ≡ true → Extent at t
+stands-extends : (s : List ℕ) (at : ℕ) {t : Step} → Stands s at t → t .found ≡ true → Extent s at t
 unfolding plainStep loggedStep
 stands-extends s at (is-refused n p h) e = never e
 stands-extends s at (is-skipped n on within) e = never e
-stands-extends s at (is-plain n subs few h) e = record { least = omega arith; event = never }
-stands-extends s at (is-logged n few h) e = record { least = omega arith; event = λ _. omega arith }
+stands-extends s at (is-plain n subs few h) e = record { least = omega arith; within = omega arith; event = never }
+stands-extends s at (is-logged n few h) e = record { least = omega arith; within = omega arith; event = λ _. omega arith }
 
-pub found-extent : (s : List ℕ) (kind : Kind) (at : ℕ) (t : Step) → t ≡ stepAt s kind at → t .found ≡ true → Extent at t
+pub found-extent : (s : List ℕ) (kind : Kind) (at : ℕ) (t : Step) → t ≡ stepAt s kind at → t .found ≡ true → Extent s at t
 found-extent s kind at t e f = rw e (stands-extends s at (stands s kind at) (rw e at f))
 
 -- ---- the reading's step moves on too, and its position bounds the number of elements
