@@ -1,4 +1,4 @@
--- Laws of the walks over conditions and elements: one turn, and the end.
+-- Laws of the walks over conditions and elements: where they end, one turn, and the last.
 -- Assumes nothing.
 use Prim.Native.Nat.{ℕ, zero, suc, _+_, _≤_, _<_}
 use mathlib.Core.Path.{_≡_, refl}
@@ -14,26 +14,27 @@ use Rattle.traces.specs.declared.elements.Elements.{Elements}
 use Rattle.traces.specs.Places.{placeBehindRecord}
 use Rattle.traces.specs.Elements.{conditionEnd, withCondition, moreConditions, tracedElementAt, withTraced, moreTraced}
 
--- nothing ends past the end of the input
+-- what would end past the end of the input is refused
 pub behind-past : (s : List ℕ) (at n : ℕ) → length s < at + n → placeBehindRecord s at n ≡ 0
 unfolding placeBehindRecord if_then_else_
 behind-past s zero n h = refl
 behind-past s (suc at) n h = rw (ne-eqb (suc at) 0 (λ (e : suc at ≡ 0). omega arith), lt-ltb (length s) (suc at + n) h)
 
+-- so nothing ends there
 module _ (s : List ℕ) where
-  abbrev Within : ℕ → Type 0
-  Within end = end ≤ length s
+  abbrev Inside : ℕ → Type 0
+  Inside end = end ≤ length s
 
-  pub behind-within : (at n : ℕ) → Within (placeBehindRecord s at n)
+  pub behind-within : (at n : ℕ) → Inside (placeBehindRecord s at n)
   unfolding placeBehindRecord
   behind-within at n =
-      either Within _ _ _ (λ _. omega arith) (λ _. either Within _ _ _ (λ _. omega arith) (λ e. ltb-false (length s) (at + n) e))
+      either Inside _ _ _ (λ _. omega arith) (λ _. either Inside _ _ _ (λ _. omega arith) (λ e. ltb-false (length s) (at + n) e))
 
-  pub condition-within : (ty at least : ℕ) → Within (conditionEnd s ty at least)
+  pub condition-within : (ty at least : ℕ) → Inside (conditionEnd s ty at least)
   unfolding conditionEnd
   condition-within ty at least =
-      either Within _ _ _ (λ _. omega arith)
-      (λ _. either Within _ _ _ (λ _. omega arith) (λ _. either Within _ _ _ (λ _. omega arith) (λ _. behind-within at _)))
+      either Inside _ _ _ (λ _. omega arith)
+      (λ _. either Inside _ _ _ (λ _. omega arith) (λ _. either Inside _ _ _ (λ _. omega arith) (λ _. behind-within at _)))
 
 module _ (s : List ℕ) (ty n : ℕ) (w : Conditions) where
   pub conditions-next : (k : ℕ) → n ≡ suc k → moreConditions s ty n w ≡ moreConditions s ty k (withCondition s ty w)

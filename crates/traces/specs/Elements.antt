@@ -1,5 +1,5 @@
 -- The elements of a request writer's record: "token (1), type (1), limit or timeout (2; a limit is below 256), number of conditions (1), each
--- with ID (1, rising), length (1), octets".
+-- with ID (1, .. rising), length (1, ..), octets".
 -- Assumes nothing.
 use Prim.Native.Nat.{ℕ, zero, suc, _+_, _%_}
 use mathlib.Core.Bool.{Bool, true, false, not}

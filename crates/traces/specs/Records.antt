@@ -15,10 +15,10 @@ use Rattle.events.specs.declared.Transition.{Transition}
 use Rattle.events.specs.declared.PeerLink.{PeerLink}
 use Rattle.traces.specs.declared.calls.Span.{Span}
 use Rattle.traces.specs.declared.calls.SetupCall.{SetupCall}
-use Rattle.traces.specs.declared.calls.RsnaCall.{RsnaCall}
 use Rattle.traces.specs.declared.calls.FrameCall.{FrameCall}
 use Rattle.traces.specs.declared.calls.ReportCall.{ReportCall}
 use Rattle.traces.specs.declared.calls.MoveCall.{MoveCall}
+use Rattle.traces.specs.declared.calls.RsnaCall.{RsnaCall}
 use Rattle.traces.specs.declared.calls.WriterCall.{WriterCall}
 use Rattle.traces.specs.declared.calls.ReaderCall.{ReaderCall}
 use Rattle.traces.specs.Places.{placeBehindRecord, badLength, octetsEnd, listEnd}

@@ -29,11 +29,6 @@ pub struct SetupCall {
     pub list: usize,
 }
 
-pub struct RsnaCall {
-    pub event: RsnaEvent,
-    pub rsn: Span,
-}
-
 pub struct FrameCall {
     pub reading: Milliseconds,
     pub destination: [u8; 6],
@@ -55,6 +50,11 @@ pub struct MoveCall {
     pub reading: Milliseconds,
     pub count: u8,
     pub list: usize,
+}
+
+pub struct RsnaCall {
+    pub event: RsnaEvent,
+    pub rsn: Span,
 }
 
 // The elements stand at a position.
@@ -91,6 +91,7 @@ fn milliseconds_at(s: &[u8], at: usize) -> Milliseconds
     Milliseconds((pair_at(s, at) as u32) + 65536 * (pair_at(s, at + 2) as u32))
 }
 
+// So many octets at a position.
 fn three_at(s: &[u8], at: usize) -> [u8; 3]
     ensures { λ r. ⌜ r ≡ octetsAt (now (s .entry)) at 3 ⌝ }
 {
