@@ -1,2 +1,3 @@
+pub mod DecoderLaws
 pub mod Laws
 pub mod RoundTrip
