@@ -103,26 +103,29 @@ pub fn length_of(ty: usize, id: usize, first: u8) -> usize
 
 // Octet k of a body of n octets, 0 past its end.
 fn body_octet(s: &[u8], at: usize, n: usize, k: usize) -> u8
-    requires { ⌜ at + n < 2 ^ 64 ⌝ }
+    requires { ⌜ at ≤ length (now s) ⌝ }
     ensures { λ r. ⌜ r ≡ bodyOctet (now (s .entry)) at n k ⌝ }
 {
-    if k < n { octet(s, at + k) } else { 0 }
+    if n <= k {
+        return 0;
+    }
+    if k < s.len() - at { s[at + k] } else { 0 }
 }
 
 // A body of n octets, in eight places, 0 past its end.
 pub fn body(s: &[u8], at: usize, n: usize) -> [u8; 8]
-    requires { ⌜ at + n < 2 ^ 64 ⌝ }
     ensures { λ r. ⌜ r ≡ bodyAt (now (s .entry)) at n ⌝ }
 {
+    let from = least(at, s.len());
     [
-        body_octet(s, at, n, 0),
-        body_octet(s, at, n, 1),
-        body_octet(s, at, n, 2),
-        body_octet(s, at, n, 3),
-        body_octet(s, at, n, 4),
-        body_octet(s, at, n, 5),
-        body_octet(s, at, n, 6),
-        body_octet(s, at, n, 7),
+        body_octet(s, from, n, 0),
+        body_octet(s, from, n, 1),
+        body_octet(s, from, n, 2),
+        body_octet(s, from, n, 3),
+        body_octet(s, from, n, 4),
+        body_octet(s, from, n, 5),
+        body_octet(s, from, n, 6),
+        body_octet(s, from, n, 7),
     ]
 }
 
