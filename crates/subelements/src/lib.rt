@@ -2,11 +2,13 @@
 // table): the table of lengths, and the one walker that reads it.
 use octets::Refusal;
 use octets::causes;
+use octets::least;
 use octets::octet;
 use octets::piece_end;
 use octets::size;
 ghost use mathlib.Core.Path.{_≡_};
-ghost use Prim.Native.Nat.{_+_, _≤_, _<_, _^_};
+ghost use Prim.Native.Nat.{_≤_};
+ghost use lib.ListN.{length};
 ghost use Rattle.subelements.specs.Subelements.{rowOf, lengthOf, bodyOctet, bodyAt, walked, refusedWalk, walk as Subelements·walk, tables};
 
 // The subelement of one ID of the table: absent (its octets 0), or present with its body (0 past
