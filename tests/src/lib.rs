@@ -1,13 +1,17 @@
-//! A separately written reader and gate for document 01, and the differential tests made with it.
+//! A separately written reader and gate for document 01 and request (a) of document 02, and the differential tests made with it.
 
 // The reader and the gate.
 pub mod clock;
+pub mod condition;
+pub mod event_body;
 pub mod event_request;
 pub mod listing;
 pub mod octets;
+pub mod peer_link;
 pub mod refusal;
 pub mod report;
 pub mod request;
+pub mod rsna;
 pub mod setup;
 pub mod station;
 pub mod trace;
