@@ -20,6 +20,8 @@ pub mod transition;
 // Made-up input.
 pub mod cases;
 pub mod damage;
+pub mod kind_cases;
+pub mod make_events;
 pub mod make_identity;
 pub mod make_reports;
 pub mod make_requests;
@@ -29,6 +31,7 @@ pub mod random;
 // The runner.
 pub mod answers;
 pub mod compare;
+pub mod covered;
 pub mod independence;
 pub mod phases;
 pub mod program;

@@ -1,5 +1,6 @@
 //! The program `replay`: its records, read and written, and what it prints.
 
+use crate::covered::Covered;
 use crate::listing::list_report;
 use crate::octets::{address_of, u16_of, Address, Kind};
 use crate::peer_link::{PeerLink, PeerLogging};
@@ -344,15 +345,17 @@ pub fn hexadecimal(octets: &[u8]) -> String {
     octets.iter().flat_map(|octet| [digit(octet / 16), digit(octet % 16)]).collect()
 }
 
-/// What a trace gives: the text that `replay` prints, and what the gate chose for each frame that it gave.
+/// What a trace gives: the text that `replay` prints, what the gate chose for each frame that it gave, and the
+/// cases that it had.
 #[derive(Default)]
 pub struct Replayed {
     pub printed: String,
     pub chosen: Vec<ReportFrame>,
+    pub covered: Covered,
 }
 
-/// Runs one record; gives what is printed for it, and adds what was chosen.
-fn run_record(station: &mut Station, record: &Record, chosen: &mut Vec<ReportFrame>) -> String {
+/// Runs one record; gives what is printed for it, and what was chosen for a frame.
+fn run_record(station: &mut Station, record: &Record, chosen: &mut Option<ReportFrame>) -> String {
     match record {
         Record::Setup { identity, list } => {
             let (answer, fresh) = Station::setup(identity, list);
@@ -369,7 +372,7 @@ fn run_record(station: &mut Station, record: &Record, chosen: &mut Vec<ReportFra
         Record::Report { reading, console, kind, buffer, fill } => {
             let mut lent = vec![*fill; *buffer];
             let answer = station.report(*reading, console, *kind, &mut lent).map(|(answer, frame)| {
-                chosen.extend(frame);
+                *chosen = frame;
                 answer
             });
             line(answer) + &buffer_line(&lent)
@@ -396,10 +399,17 @@ pub fn run_trace(input: &[u8]) -> Replayed {
     let mut at = 0;
     while at < within.len() {
         let Some((record, length)) = read_record(&within[at..]) else {
+            replayed.covered.refused_record(&within[at..]);
             replayed.printed += &format!("trace refused at {at}\n");
             return replayed;
         };
-        replayed.printed += &run_record(&mut station, &record, &mut replayed.chosen);
+        replayed.covered.before(&station, &record);
+        let oldest = station.log().first().filter(|_| station.log().len() == 64).map(|event| event.body.ty());
+        let mut chosen = None;
+        let printed = run_record(&mut station, &record, &mut chosen);
+        replayed.covered.after(&record, oldest, &printed, chosen.as_ref());
+        replayed.chosen.extend(chosen);
+        replayed.printed += &printed;
         at += length;
     }
     if input.len() > LONGEST_TRACE {
