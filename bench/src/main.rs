@@ -245,7 +245,7 @@ impl Side for twin::Station {
         let mut sum = 0;
         for e in report.elements() {
             sum += e.token as u64 + e.ty as u64 + e.status as u64;
-            sum += match e.event {
+            sum += match e.event() {
                 Some(twin::Event::Transition(event)) => {
                     event.took as u64 + event.target[5] as u64 + event.result as u64
                 }
