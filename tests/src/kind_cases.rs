@@ -133,6 +133,15 @@ fn request_cases() -> Vec<Case> {
     ]
 }
 
+/// The short RSNA report with the first octet of an EAP method of 8, and the long one with one of 1.
+fn expanded_in_24() -> String {
+    SHORT_RSNA.replace("010d11", "01fe11")
+}
+
+fn legacy_in_53() -> String {
+    LONG_RSNA.replace("01fe00", "010d00")
+}
+
 /// Report frames, listed.
 fn reading_cases() -> Vec<Case> {
     let time = "time 2026-12-31 23:59:58.999";
@@ -147,14 +156,14 @@ fn reading_cases() -> Vec<Case> {
          element 79 token 5 type 1 status 0\n"
     );
     let refused = |number: u8| format!("refused {number} at 3\n");
-    let expanded_in_24 = SHORT_RSNA.replace("010d11", "01fe11");
     // Month 13.
     let wrong_month = PEER_LINK.replace("1f0cea", "1f0dea");
     let one_more = wrong_month.replace("4f19", "4f1a") + "00";
     let all = [SHORT_RSNA, LONG_RSNA, PEER_LINK, "4f03050100"].concat();
     vec![
         read_case("RSNA and peer link events, listed", &all, listed),
-        read_case("EAP 254 in a body of 24: 17", &expanded_in_24, refused(17)),
+        read_case("EAP 254 in a body of 24: 17", &expanded_in_24(), refused(17)),
+        read_case("EAP 13 in a body of 53: 17", &legacy_in_53(), refused(17)),
         read_case("a wrong time in a peer link event: 14", &wrong_month, refused(14)),
         read_case("a wrong time and a wrong length: 17", &one_more, refused(17)),
     ]
@@ -177,7 +186,8 @@ pub fn full_frame(one_more: Record, ty: u8) -> Vec<Record> {
     records
 }
 
-/// Frames at the limit of 2,304 octets, and records that are cut or have conditions that are not their type's.
+/// Frames at the limit of 2,304 octets, records that are cut or have conditions that are not their type's, and
+/// RSNA bodies that are not as long as their EAP method.
 pub fn kind_limits() -> Vec<Input> {
     let rsna = Record::LogRsna { reading: 10, logging: rsna(LEGACY, &[]) };
     let peer = Record::LogPeerLink { reading: 10, logging: peer_link() };
@@ -188,7 +198,12 @@ pub fn kind_limits() -> Vec<Input> {
     let write = |ty: u8, conditions: &[u8]| {
         Input::Trace(vec![[&[0x10, 11, 1, 0, 0, 7, 1, 5, ty, 4, 0][..], conditions].concat()])
     };
+    let read = |elements: &str| {
+        let octets = octets_of(&format!("0a0107{elements}"));
+        Record::Read { destination: STATION, octets }
+    };
     vec![
+        trace(&[read(&expanded_in_24()), read(&legacy_in_53())]),
         cut(&rsna),
         cut(&peer),
         write(1, &[1, 2, 1, 13]),

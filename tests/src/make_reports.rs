@@ -65,7 +65,7 @@ fn event_element(random: &mut Random) -> Vec<u8> {
     if random.percent(2) {
         body[2] = random.pick(&[1, 4, 5, 255]);
     }
-    if random.percent(4) {
+    if random.percent(5) {
         wrong_event(random, &mut body);
     }
     part(79, &body)
@@ -80,7 +80,7 @@ fn wrong_event(random: &mut Random, body: &mut Vec<u8>) {
     if body.len() > 12 && random.percent(30) {
         body[3..12].copy_from_slice(&time(random, 100));
     }
-    match random.between(0, 4) {
+    match random.between(0, 5) {
         0 => body.push(random.octet()),
         1 => drop(body.pop()),
         2 => body.resize(random.pick(&[3, 4, 11, 12, 22, 23, 24, 25, 31, 33, 45, 46, 47, 53]), 0),

@@ -38,16 +38,16 @@ pub fn request_frame(random: &mut Random, kind: Kind, dialog: u8, taste: Taste) 
 /// stands already (`token`) or 0, a subelement past the end, of wrong length, or repeated.
 fn wrong_element(random: &mut Random, kind: Kind, token: u8) -> Vec<u8> {
     let own_token = random.pick(&[token, 0, 250, 251, 252, 253, 254, 255, 255, 255]);
-    let ty = random.pick(&[0, 0, 1, 1, 2, 2, 3, 255]);
+    let ty = random.pick(&[0, 0, 1, 1, 1, 2, 2, 3, 255]);
     let mut body = vec![own_token, ty];
     body.extend(random.octets(kind.shortest_request() - 2));
-    for _ in 0..random.pick(&[0, 1, 2, 3]) {
-        let id = random.pick(&[0, 1, 1, 2, 2, 3, 3, 4, 5]);
+    for _ in 0..random.pick(&[0, 1, 1, 2, 3]) {
+        let id = random.pick(&[0, 1, 1, 2, 2, 2, 3, 3, 4, 5]);
         let inner =
-            if random.percent(20) { wrong_condition(random, ty, id) } else { condition_body(random, ty, id) };
+            if random.percent(40) { wrong_condition(random, ty, id) } else { condition_body(random, ty, id) };
         body.extend(part(id, &inner));
     }
-    if random.percent(40) {
+    if random.percent(30) {
         body.truncate(random.between(0, body.len()));
     }
     let mut octets = part(kind.request_id(), &body);
