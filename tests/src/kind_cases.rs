@@ -1,6 +1,6 @@
 //! Cases of document 02's request (a), with what is printed worked out by hand from the papers.
 
-use crate::cases::{frame, frame_case, logging, report, reported, setup, trace, Case, Input, TIME};
+use crate::cases::{frame, frame_case, logging, report, reported, setup, trace, Case, Input, CONSOLE, TIME};
 use crate::make_events::BSSIDS;
 use crate::make_identity::STATION;
 use crate::octets::Kind;
@@ -175,14 +175,15 @@ pub fn kind_cases() -> Vec<Case> {
 }
 
 /// 63 transitions and one event more; a request for the transitions, the one and two transitions again; two
-/// report calls. With an RSNA event of 26 octets the frame has 3 + 63 * 35 + 26 + 70 = 2,304, with a peer link
+/// report calls with a long buffer. With an RSNA event of 26 octets the frame has 3 + 63 * 35 + 26 + 70 = 2,304, with a peer link
 /// event of 27 the last transition is one octet too long.
 pub fn full_frame(one_more: Record, ty: u8) -> Vec<Record> {
     let mut records = vec![setup()];
     records.extend((0..63).map(|_| logging(10, 10)));
     records.push(one_more);
     records.push(frame(10, &[10, 0, 7, 78, 3, 1, 0, 255, 78, 3, 2, ty, 255, 78, 3, 3, 0, 2]));
-    records.extend([report(10, Kind::Event), report(10, Kind::Event)]);
+    let call = Record::Report { reading: 10, console: CONSOLE, kind: Kind::Event, buffer: 4096, fill: 0xEE };
+    records.extend([call.clone(), call]);
     records
 }
 

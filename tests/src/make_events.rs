@@ -4,7 +4,7 @@ use crate::event_body::EventBody;
 use crate::octets::Address;
 use crate::peer_link::{PeerLink, PeerLogging};
 use crate::random::Random;
-use crate::rsna::RsnaLogging;
+use crate::rsna::{EapMethod, RsnaLogging};
 use crate::station::Logging;
 use crate::trace::Record;
 use crate::transition::{Time, Transition};
@@ -77,10 +77,12 @@ pub fn method(random: &mut Random) -> &'static [u8] {
     random.pick(&METHODS)
 }
 
-/// An EAP method as calls hand it in: eight octets, of which those past a method of one are mostly garbage.
+/// An EAP method as calls hand it in: eight octets, of which those past a method of one are mostly garbage, at
+/// times the octet that makes a method of eight.
 pub fn method_in_eight(random: &mut Random) -> [u8; 8] {
     let own = method(random);
-    let mut eight = if random.percent(80) { random.bits().to_le_bytes() } else { [0; 8] };
+    let garbage = random.bits().to_le_bytes();
+    let mut eight = random.pick(&[[0; 8], [EapMethod::EXPANDED; 8], garbage, garbage, garbage]);
     eight[..own.len()].copy_from_slice(own);
     eight
 }
