@@ -175,8 +175,8 @@ pub fn kind_cases() -> Vec<Case> {
 }
 
 /// 63 transitions and one event more; a request for the transitions, the one and two transitions again; two
-/// report calls with a long buffer. With an RSNA event of 26 octets the frame has 3 + 63 * 35 + 26 + 70 = 2,304, with a peer link
-/// event of 27 the last transition is one octet too long.
+/// report calls with a long buffer. With an RSNA event of 26 octets the frame has 3 + 63 * 35 + 26 + 70 =
+/// 2,304, with a peer link event of 27 the last transition is one octet too long.
 pub fn full_frame(one_more: Record, ty: u8) -> Vec<Record> {
     let mut records = vec![setup()];
     records.extend((0..63).map(|_| logging(10, 10)));

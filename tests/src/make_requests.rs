@@ -76,7 +76,7 @@ fn wrong_condition(random: &mut Random, ty: u8, id: u8) -> Vec<u8> {
     body
 }
 
-/// An event request that fills a frame on a full log of three kinds: up to eight elements of any type, so that
+/// An event request that fills a frame on a full log of three kinds: eight elements of any type, so that
 /// frames end anywhere up to 2,304 octets.
 fn crowded_by_kinds(random: &mut Random, dialog: u8) -> Vec<u8> {
     let mut frame = vec![10, 0, dialog];
@@ -88,8 +88,9 @@ fn crowded_by_kinds(random: &mut Random, dialog: u8) -> Vec<u8> {
     frame
 }
 
-/// One of these; or one that fills a frame of 2,304 octets to within one on a full log of transitions: 65 events (35 octets
-/// each) and five Incapable (5 each) make 2,303 with the header; an eighth element is left or not.
+/// One of these; or one that fills a frame of 2,304 octets to within one on a full log of transitions: 65
+/// events (35 octets each) and five Incapable (5 each) make 2,303 with the header; an eighth element is left
+/// or not.
 pub fn crowded_request(random: &mut Random, dialog: u8) -> Vec<u8> {
     if random.percent(70) {
         return crowded_by_kinds(random, dialog);

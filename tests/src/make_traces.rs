@@ -12,7 +12,7 @@ use crate::setup::{identity_is_good, list_is_good};
 use crate::station::Logging;
 use crate::trace::{handed_lengths, write_record, Record, LONGEST_TRACE};
 
-/// Lengths of lent buffers at which something changes: the least buffer, one to several events of 35
+/// Lengths of lent buffers at which something changes: the least buffer, one to several transitions of 35
 /// octets, reports of 5, the longest identity twice, the longest frame.
 const BUFFERS: [usize; 32] = [
     0, 1, 2, 3, 258, 259, 260, 260, 260, 261, 262, 264, 265, 266, 267, 268, 283, 293, 294, 295, 296, 300,
