@@ -55,10 +55,18 @@ module _ (token : ℕ) (entry : Entry) (t : length (entry .time) ≡ 9) (b : len
   rest-length : length (entry .time ++ take n (entry .body)) ≡ 9 + n
   rest-length = length-append (entry .time) (take n (entry .body)) ∙ omega (arith, length-take n (entry .body))
 
-  pub event-parts : eventElement token entry ≡ reportHead Event token (entry .ty) successful (9 + n) ++ (entry .time ++ take n (entry .body))
+  event-parts : eventElement token entry ≡ reportHead Event token (entry .ty) successful (9 + n) ++ (entry .time ++ take n (entry .body))
   unfolding eventElement
   event-parts = rw (← body-part) (element-parts Event token (entry .ty) successful (entry .time ++ take n (entry .body)) ∙ rw rest-length)
 
   pub event-length : length (eventElement token entry) ≡ 14 + n
   unfolding eventElement
   event-length = rw (← body-part) (element-length Event token (entry .ty) successful (entry .time ++ take n (entry .body)) ∙ omega (arith, rest-length))
+
+  -- head, time and body, one behind the other
+  pub put-event-parts : (s head : List ℕ) → 14 + n ≤ length s → head ≡ reportHead Event token (entry .ty) successful (9 + n)
+      → (i : ℕ) (y : List ℕ) → wrote i y ≡ putAt head 0 s → (j : ℕ) (z : List ℕ) → wrote j z ≡ putAt (entry .time) i y
+      → (k : ℕ) (x : List ℕ) → wrote k x ≡ putAt (take n (entry .body)) j z → wrote k x ≡ putFront (eventElement token entry) s
+  put-event-parts s head fits is i y p j z q k x r =
+      put-three _ s (omega (arith, event-length)) head (entry .time ++ take n (entry .body))
+      (event-parts ∙ ap (λ l. l ++ (entry .time ++ take n (entry .body))) (sym is)) i y p (entry .time) (take n (entry .body)) refl j z q k x r

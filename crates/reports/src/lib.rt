@@ -2,7 +2,6 @@
 // the part of a report buffer that is lent, or not at all.
 use events::BODY_CAPACITY;
 use events::Entry;
-use events::peer_links::PEER_LINK_LENGTH;
 use events::transitions::TRANSITION_LENGTH;
 use octets::Kind;
 use octets::least;
@@ -13,6 +12,7 @@ ghost use mathlib.Core.List.{[]};
 ghost use Prim.Native.Nat.{_≤_};
 ghost use lib.ListN.{length, take};
 ghost use Rattle.laws.specs.Buffers.{wrote, putFront, putAt};
+ghost use Rattle.events.specs.Transitions.{transitionLength};
 ghost use Rattle.events.specs.Log.{bodyCapacity};
 ghost use Rattle.reports.specs.Reports.{reportHead, reportElement, eventElement};
 
@@ -37,19 +37,19 @@ pub fn put_plain(buf: &mut [u8], kind: Kind, token: u8, ty: u8, status: u8) -> u
     put(buf, 0, &head)
 }
 
-// The first n octets of a body behind the first `at` of a buffer. The lengths of a transition and of a
-// peer link are told apart: their copies are then of a fixed size.
+// The first n octets of a body behind the first `at` of a buffer.
 fn put_body(buf: &mut [u8], at: usize, body: [u8; BODY_CAPACITY], n: usize) -> usize
     requires { ⌜ n ≤ bodyCapacity ⌝ }
     ensures { λ r. ⌜ wrote r (now (buf .exit)) ≡ putAt (take n body) at (now (buf .entry)) ⌝ }
 {
-    if n == TRANSITION_LENGTH {
-        return put(buf, at, &body[..TRANSITION_LENGTH]);
-    }
-    if n == PEER_LINK_LENGTH {
-        return put(buf, at, &body[..PEER_LINK_LENGTH]);
-    }
     put(buf, at, &body[..n])
+}
+
+// Those of a transition's: a copy of a fixed size, which a body of its own keeps apart from the other.
+fn put_transition(buf: &mut [u8], at: usize, body: [u8; BODY_CAPACITY]) -> usize
+    ensures { λ r. ⌜ wrote r (now (buf .exit)) ≡ putAt (take transitionLength body) at (now (buf .entry)) ⌝ }
+{
+    put(buf, at, &body[..TRANSITION_LENGTH])
 }
 
 // A Successful report with an event: its time and its body.
@@ -65,6 +65,9 @@ pub fn put_event(buf: &mut [u8], token: u8, entry: Entry) -> usize
     let body = entry.body;
     let behind_head = put(buf, 0, &head);
     let behind_time = put(buf, behind_head, &time);
+    if n == TRANSITION_LENGTH {
+        return put_transition(buf, behind_time, body);
+    }
     put_body(buf, behind_time, body, n)
 }
 

@@ -1,12 +1,11 @@
 -- `reports::put_event` meets its contract: head, time and body stand one behind the other.
 -- Assumes nothing.
 use native.Mathlib.Omega.{arith}
-use mathlib.Core.Path.{_≡_, refl, sym, ap, _∙_}
-use mathlib.Core.List.{_++_}
-use lib.ListN.{length, take}
+use mathlib.Core.Path.{_≡_, sym}
+use lib.ListN.{length}
 use Rattle.laws.proofs.Buffers.{put-front-short}
 use Rattle.events.specs.Log.{bodyCapacity}
-use Rattle.reports.proofs.Laws.{event-parts, event-length, put-three}
+use Rattle.reports.proofs.Laws.{event-length, put-event-parts}
 use borrow.Author.Needs.{needs}
 use Rattle.reports.proofs.put_event.Statement.{statement}
 use Rattle.reports.proofs.put_event.Tie as tie
@@ -45,23 +44,31 @@ slice-aggregate-put-2 c = search needs
 put-requires-2 : tie.Need-put-requires-2
 put-requires-2 c κs = search needs
 
-put-body-requires : tie.Need-put-body-requires
-put-body-requires c κs = omega (arith, c .before .before .before .before .before .before .before .before .before .before .before .before .before .before .before .least .ensures)
+put-transition-requires : tie.Need-put-transition-requires
+put-transition-requires c κs = search needs
 
 same-length : tie.Need-same-length
 same-length c = search needs
 
 returns-2 : tie.Need-returns-2
 returns-2 c =
-    let a = c .before .before .before .before .before .before .before .before .before .before .before .before .before .before .before .before .before .before .before .before .before .args in
-    let e = a .entry in
-    let n = c .before .before .before .before .before .before .before .before .before .before .before .before .before .before .before .before .before .before .least .result in
-    let m = c .before .before .before .before .before .before .before .before .before .before .before .before .before .before .before .before .before .before .least .ensures in
-    let t : length (e .time) ≡ 9 = search (needs, c .before .before .before .before .before .before .before .before .before .before .before .before .before .before .before .before .before .before .before .before .before .good) in
-    let b : length (e .body) ≡ bodyCapacity = search (needs, c .before .before .before .before .before .before .before .before .before .before .before .before .before .before .before .before .before .before .before .before .before .good) in
-    put-three _ (a .buf .now) (omega (arith, event-length (a .token) e t b n m)) (c .before .before .before .before .before .before .before .before .before .before .before .before .before .before .before .before .head-of .result) (e .time ++ take n (e .body))
-    (event-parts (a .token) e t b n m ∙ ap (λ l. l ++ (e .time ++ take n (e .body))) (sym (c .before .before .before .before .before .before .before .before .before .before .before .before .before .before .before .before .head-of .ensures))) _ _ (c .before .before .before .before .before .before .before .before .before .before .before .put .ensures)
-    (e .time) (take n (e .body)) refl _ _ (c .before .before .before .before .before .before .put2 .ensures) _ _ (c .before .before .put-body .ensures)
+    let a = c .before .before .before .before .before .before .before .before .before .before .before .before .before .before .before .before .before .before .before .before .before .before .args in
+    let t : length (a .entry .time) ≡ 9 = search (needs, c .before .before .before .before .before .before .before .before .before .before .before .before .before .before .before .before .before .before .before .before .before .before .good) in
+    let b : length (a .entry .body) ≡ bodyCapacity = search (needs, c .before .before .before .before .before .before .before .before .before .before .before .before .before .before .before .before .before .before .before .before .before .before .good) in
+    put-event-parts (a .token) (a .entry) t b _ (c .before .before .before .before .before .before .before .before .before .before .before .before .before .before .before .before .before .before .before .least .ensures) (a .buf .now) _ (c .before .before .before .before .before .before .before .before .before .before .before .before .before .before .before .before .before .before .if1 .left) (c .before .before .before .before .before .before .before .before .before .before .before .before .before .before .before .before .before .head-of .ensures) _ _ (c .before .before .before .before .before .before .before .before .before .before .before .before .put .ensures) _ _ (c .before .before .before .before .before .before .before .put2 .ensures) _ _ (rw (c .before .before .before .before .if2 .taken) (c .before .before .put-transition .ensures))
+
+put-body-requires : tie.Need-put-body-requires
+put-body-requires c κs = omega (arith, c .before .before .before .before .before .before .before .before .before .before .before .before .before .before .before .before .least .ensures)
+
+same-length-2 : tie.Need-same-length-2
+same-length-2 c = search needs
+
+returns-3 : tie.Need-returns-3
+returns-3 c =
+    let a = c .before .before .before .before .before .before .before .before .before .before .before .before .before .before .before .before .before .before .before .before .before .before .args in
+    let t : length (a .entry .time) ≡ 9 = search (needs, c .before .before .before .before .before .before .before .before .before .before .before .before .before .before .before .before .before .before .before .before .before .before .good) in
+    let b : length (a .entry .body) ≡ bodyCapacity = search (needs, c .before .before .before .before .before .before .before .before .before .before .before .before .before .before .before .before .before .before .before .before .before .before .good) in
+    put-event-parts (a .token) (a .entry) t b _ (c .before .before .before .before .before .before .before .before .before .before .before .before .before .before .before .before .before .before .before .least .ensures) (a .buf .now) _ (c .before .before .before .before .before .before .before .before .before .before .before .before .before .before .before .before .before .before .if1 .left) (c .before .before .before .before .before .before .before .before .before .before .before .before .before .before .before .before .before .head-of .ensures) _ _ (c .before .before .before .before .before .before .before .before .before .before .before .before .put .ensures) _ _ (c .before .before .before .before .before .before .before .put2 .ensures) _ _ (c .before .before .put-body .ensures)
 
 pub put-event-spec : {M : Type 1} → statement M
 put-event-spec =
@@ -77,6 +84,9 @@ put-event-spec =
     put-requires
     slice-aggregate-put-2
     put-requires-2
-    put-body-requires
+    put-transition-requires
     same-length
-    returns-2)
+    returns-2
+    put-body-requires
+    same-length-2
+    returns-3)
