@@ -12,7 +12,7 @@ ghost use lib.ListN.{length};
 ghost use Rattle.subelements.specs.Subelements.{rowOf, lengthOf, bodyOctet, bodyAt, walked, refusedWalk, walk as Subelements·walk, tables};
 
 // The subelement of one ID of the table: absent (its octets 0), or present with its body (0 past
-// its length). In a request element of event type 0 it is a condition.
+// its length). In a request element of an event type with a table it is a condition.
 #[repr(C)]
 pub struct Condition {
     pub present: bool,
