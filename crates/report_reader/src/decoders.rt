@@ -19,6 +19,9 @@ ghost use Rattle.report_reader.specs.Decoders.{transitionIn, rsnaIn, pee
 // The octets of a time.
 const TIME: usize = 9;
 
+// The octets of a transition with its time.
+const TRANSITION: usize = TIME + transitions::TRANSITION_LENGTH;
+
 // A reported transition; the signals are source RCPI, source RSNI, target RCPI and target RSNI.
 #[repr(C)]
 pub struct TransitionReport {
@@ -64,7 +67,8 @@ fn behind(o: &[u8], n: usize) -> &[u8]
     &o[from..]
 }
 
-pub fn transition_in(o: &[u8]) -> TransitionReport
+// A transition of all its octets and their time. Each call has as many: the length is a constant here.
+fn transition_of(o: &[u8]) -> TransitionReport
     ensures { λ r. ⌜ r ≡ transitionIn (now (o .entry)) ⌝ }
 {
     let body = behind(o, TIME);
@@ -77,6 +81,17 @@ pub fn transition_in(o: &[u8]) -> TransitionReport
         result: transitions::result_of(body),
         signals: transitions::signals_of(body),
     }
+}
+
+pub fn transition_in(o: &[u8]) -> TransitionReport
+    ensures { λ r. ⌜ r ≡ transitionIn (now (o .entry)) ⌝ }
+{
+    if o.len() < TRANSITION {
+        let mut whole = [0u8; TRANSITION];
+        read_at(o, 0, &mut whole);
+        return transition_of(&whole);
+    }
+    transition_of(&o[..TRANSITION])
 }
 
 // The RSN element of a body.

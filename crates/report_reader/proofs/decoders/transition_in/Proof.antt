@@ -1,49 +1,46 @@
 -- `report_reader::decoders::transition_in` meets its contract.
 -- Assumes nothing.
-use Rattle.report_reader.specs.Decoders.{transitionIn}
+use mathlib.Core.Path.{sym, _∙_}
+use native.Mathlib.Omega.{arith}
+use lib.Seq.{length-take-le}
+use Rattle.report_reader.proofs.DecoderLaws.{transition-first, transition-copied}
 use borrow.Author.Needs.{needs}
 use Rattle.report_reader.proofs.decoders.transition_in.Statement.{statement}
 use Rattle.report_reader.proofs.decoders.transition_in.Tie as tie
 
-behind-requires : tie.Need-behind-requires
-behind-requires c κs = search needs
+slice-aggregate-read-at : tie.Need-slice-aggregate-read-at
+slice-aggregate-read-at c = search needs
 
-time-at-requires : tie.Need-time-at-requires
-time-at-requires c κs = search needs
+read-at-requires : tie.Need-read-at-requires
+read-at-requires c κs = search needs
 
-source-of-requires : tie.Need-source-of-requires
-source-of-requires c κs = search needs
+slice-aggregate-transition-of : tie.Need-slice-aggregate-transition-of
+slice-aggregate-transition-of c = search needs
 
-target-of-requires : tie.Need-target-of-requires
-target-of-requires c κs = search needs
-
-took-of-requires : tie.Need-took-of-requires
-took-of-requires c κs = search needs
-
-reason-of-requires : tie.Need-reason-of-requires
-reason-of-requires c κs = search needs
-
-result-of-requires : tie.Need-result-of-requires
-result-of-requires c κs = search needs
-
-signals-of-requires : tie.Need-signals-of-requires
-signals-of-requires c κs = search needs
+transition-of-requires : tie.Need-transition-of-requires
+transition-of-requires c κs = search needs
 
 returns : tie.Need-returns
-unfolding transitionIn
-returns c =
-    rw (c .before .before .before .before .before .before .time-at .ensures, c .before .before .before .before .before .source-of .ensures, c .before .before .before .before .target-of .ensures, c .before .before .before .took-of .ensures, c .before .before .reason-of .ensures, c .before .result-of .ensures, c .signals-of .ensures, c .before .before .before .before .before .before .before .behind .ensures)
+returns c = c .transition-of .ensures ∙ rw (c .before .before .before .read-at .ensures) (transition-copied _)
+
+slice-aggregate-transition-of-2 : tie.Need-slice-aggregate-transition-of-2
+slice-aggregate-transition-of-2 c = sym (length-take-le 30 (c .before .before .before .args .o .now) (omega (arith, c .before .if1 .left)))
+
+transition-of-requires-2 : tie.Need-transition-of-requires-2
+transition-of-requires-2 c κs = search needs
+
+returns-2 : tie.Need-returns-2
+returns-2 c = c .transition-of2 .ensures ∙ transition-first _
 
 pub transition-in-spec : {M : Type 1} → statement M
 transition-in-spec =
     tie.close
     (tie.spec
-    behind-requires
-    time-at-requires
-    source-of-requires
-    target-of-requires
-    took-of-requires
-    reason-of-requires
-    result-of-requires
-    signals-of-requires
-    returns)
+    slice-aggregate-read-at
+    read-at-requires
+    slice-aggregate-transition-of
+    transition-of-requires
+    returns
+    slice-aggregate-transition-of-2
+    transition-of-requires-2
+    returns-2)
