@@ -3,15 +3,17 @@
 use Prim.Native.Nat.{ℕ, zero, suc, _+_, _-_, _≤_, _<_, min}
 use mathlib.Core.Path.{_≡_, refl, sym, ap, _∙_}
 use mathlib.Core.Bool.{Bool, true, false}
-use mathlib.Core.List.{List}
-use native.Mathlib.Nat.{add-zero, zero-add}
+use mathlib.Core.List.{List, [], _∷_, _++_}
+use native.Mathlib.Nat.{zero-add}
 use native.Mathlib.Omega.{arith}
 use lib.Dec.{leb}
 use lib.ListN.{length, getD, take, drop, length-drop, drop-of-length-le}
 use lib.Seq.{take-all, getD-drop}
 use borrow.Author.Tests.{leb-true, leb-false}
+use Rattle.laws.specs.Buffers.{WrittenBuffer, wrote, putAt}
+use Rattle.laws.proofs.Buffers.{put-at-fits}
 use Rattle.octets.specs.Fields.{octetsAt}
-use Rattle.octets.proofs.PlaceLaws.{octet-within}
+use Rattle.octets.proofs.PlaceLaws.{octets-length, octet-within}
 use Rattle.report_reader.specs.Decoders.{transitionIn}
 
 pub rest-behind : (o : List ℕ) (n from : ℕ) → from ≡ min n (length o) → take (length o - from) (drop from o) ≡ drop n o
@@ -47,18 +49,28 @@ module _ (x y : List ℕ) (same : (k : ℕ) → k < 30 → getD x k 0 ≡ getD y
       let f : (n k : ℕ) → k + n ≤ 21 → octetsAt (drop 9 x) k n ≡ octetsAt (drop 9 y) k n = octets-same (drop 9 x) (drop 9 y) 21 body-same in
       rw (octets-same x y 30 same 9 0 (omega arith), f 6 0 (omega arith), f 6 6 (omega arith), f 4 17 (omega arith), body-same 12 (omega arith), body-same 13 (omega arith), body-same 14 (omega arith), body-same 15 (omega arith), body-same 16 (omega arith))
 
--- ---- so it is read of the first octets, and of those that were copied
+-- ---- so it is read of the first octets, and of fewer with zeros behind them
 
 pub transition-first : (o : List ℕ) → transitionIn (take 30 (drop 0 o)) ≡ transitionIn o
 transition-first o = transition-same _ o (λ k h. octet-within o 30 0 k h ∙ ap (λ (i : ℕ). getD o i 0) (zero-add k))
 
-octet-copied : (o : List ℕ) (n at k : ℕ) → k < n → getD (octetsAt o at n) k 0 ≡ getD o (at + k) 0
+zeros : (n at k : ℕ) → getD (octetsAt [] at n) k 0 ≡ 0
 unfolding octetsAt
-octet-copied o zero at k h = absurd (omega arith)
-octet-copied o (suc n) at zero h = ap (λ (i : ℕ). getD o i 0) (sym (add-zero at))
-octet-copied o (suc n) at (suc k) h =
-    let e : at + 1 + k ≡ at + suc k = omega arith in
-    octet-copied o n (at + 1) k (omega arith) ∙ ap (λ (i : ℕ). getD o i 0) e
+zeros zero at k = refl
+zeros (suc n) at zero = refl
+zeros (suc n) at (suc k) = zeros n (at + 1) k
 
-pub transition-copied : (o : List ℕ) → transitionIn (octetsAt o 0 30) ≡ transitionIn o
-transition-copied o = transition-same _ o (λ k h. octet-copied o 30 0 k h ∙ ap (λ (i : ℕ). getD o i 0) (zero-add k))
+padded-same : (o z : List ℕ) → ((k : ℕ) → getD z k 0 ≡ 0) → (k : ℕ) → getD (o ++ drop (length o) z) k 0 ≡ getD o k 0
+padded-same [] z h k = h k
+padded-same (x ∷ o) z h zero = refl
+padded-same (x ∷ o) [] h (suc k) =
+    let none : List ℕ = [] in
+    let e : drop (length o) none ≡ none = drop-of-length-le none {i = length o} (omega arith) in
+    ap (λ (r : List ℕ). getD (o ++ r) k 0) (sym e) ∙ padded-same o [] (λ i. refl) k
+padded-same (x ∷ o) (y ∷ z) h (suc k) = padded-same o z (λ i. h (suc i)) k
+
+pub transition-padded : (o z w : List ℕ) (n : ℕ) → z ≡ octetsAt [] 0 30 → length o < 30 → wrote n w ≡ putAt o 0 z → transitionIn w ≡ transitionIn o
+transition-padded o z w n e h does =
+    let size : length z ≡ 30 = ap length e ∙ octets-length [] 30 0 in
+    let is : w ≡ o ++ drop (length o) z = ap (λ (b : WrittenBuffer). b .octets) (does ∙ put-at-fits o 0 z (omega (arith, size, h))) in
+    transition-same w o (λ k _. rw (is, e) (padded-same o (octetsAt [] 0 30) (zeros 30 0) k))
