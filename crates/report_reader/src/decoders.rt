@@ -8,16 +8,23 @@ use events::rsna_events::rsna_length;
 use events::transitions;
 use octets::least;
 use octets::octet;
+use octets::put;
 use octets::read_at;
 use octets::time_at;
 use units::TimeUnits;
 ghost use mathlib.Core.Path.{_≡_};
-ghost use lib.ListN.{drop};
+ghost use mathlib.Core.List.{[]};
+ghost use Prim.Native.Nat.{_<_};
+ghost use lib.ListN.{length, drop};
+ghost use Rattle.octets.specs.Fields.{octetsAt};
 ghost use Rattle.events.specs.RsnaEvents.{rsnElementOf};
 ghost use Rattle.report_reader.specs.Decoders.{transitionIn, rsnaIn, peerLinkIn};
 
 // The octets of a time.
 const TIME: usize = 9;
+
+// The octets of a transition with its time.
+const TRANSITION: usize = TIME + transitions::TRANSITION_LENGTH;
 
 // A reported transition; the signals are source RCPI, source RSNI, target RCPI and target RSNI.
 #[repr(C)]
@@ -64,7 +71,7 @@ fn behind(o: &[u8], n: usize) -> &[u8]
     &o[from..]
 }
 
-pub fn transition_in(o: &[u8]) -> TransitionReport
+fn transition_of(o: &[u8]) -> TransitionReport
     ensures { λ r. ⌜ r ≡ transitionIn (now (o .entry)) ⌝ }
 {
     let body = behind(o, TIME);
@@ -77,6 +84,37 @@ pub fn transition_in(o: &[u8]) -> TransitionReport
         result: transitions::result_of(body),
         signals: transitions::signals_of(body),
     }
+}
+
+// A slice that is shorter than a transition with its time, with zeros behind it.
+fn pad(o: &[u8], blank: &mut [u8])
+    requires { ⌜ now blank ≡ octetsAt [] 0 30 ⌝ }
+    ensures { λ _. ⌜ (length (now (o .entry)) < 30 → transitionIn (now (blank .exit)) ≡ transitionIn (now (o .entry))) ⌝ }
+{
+    if TRANSITION <= o.len() {
+        return;
+    }
+    put(blank, 0, o);
+}
+
+// As many octets as a transition with its time has.
+fn whole_of<'a>(o: &'a [u8], padded: &'a [u8]) -> &'a [u8]
+    requires { ⌜ (length (now o) < 30 → transitionIn (now padded) ≡ transitionIn (now o)) ⌝ }
+    ensures { λ r. ⌜ transitionIn (now r) ≡ transitionIn (now (o .entry)) ⌝ }
+{
+    if o.len() < TRANSITION {
+        return padded;
+    }
+    &o[..TRANSITION]
+}
+
+// The end is tested before all fields: the length of what they are read of is a constant.
+pub fn transition_in(o: &[u8]) -> TransitionReport
+    ensures { λ r. ⌜ r ≡ transitionIn (now (o .entry)) ⌝ }
+{
+    let mut padded = [0u8; TRANSITION];
+    pad(o, &mut padded);
+    transition_of(whole_of(o, &padded))
 }
 
 // The RSN element of a body.

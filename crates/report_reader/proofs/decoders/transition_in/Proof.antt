@@ -1,49 +1,37 @@
 -- `report_reader::decoders::transition_in` meets its contract.
 -- Assumes nothing.
-use Rattle.report_reader.specs.Decoders.{transitionIn}
+use mathlib.Core.Path.{refl, _∙_}
+use Rattle.octets.specs.Fields.{octetsAt}
 use borrow.Author.Needs.{needs}
 use Rattle.report_reader.proofs.decoders.transition_in.Statement.{statement}
 use Rattle.report_reader.proofs.decoders.transition_in.Tie as tie
 
-behind-requires : tie.Need-behind-requires
-behind-requires c κs = search needs
+slice-aggregate-pad : tie.Need-slice-aggregate-pad
+slice-aggregate-pad c = search needs
 
-time-at-requires : tie.Need-time-at-requires
-time-at-requires c κs = search needs
+pad-requires : tie.Need-pad-requires
+unfolding octetsAt
+pad-requires c κs = refl
 
-source-of-requires : tie.Need-source-of-requires
-source-of-requires c κs = search needs
+slice-aggregate-whole-of : tie.Need-slice-aggregate-whole-of
+slice-aggregate-whole-of c = search needs
 
-target-of-requires : tie.Need-target-of-requires
-target-of-requires c κs = search needs
+whole-of-requires : tie.Need-whole-of-requires
+whole-of-requires c κs = search needs
 
-took-of-requires : tie.Need-took-of-requires
-took-of-requires c κs = search needs
-
-reason-of-requires : tie.Need-reason-of-requires
-reason-of-requires c κs = search needs
-
-result-of-requires : tie.Need-result-of-requires
-result-of-requires c κs = search needs
-
-signals-of-requires : tie.Need-signals-of-requires
-signals-of-requires c κs = search needs
+transition-of-requires : tie.Need-transition-of-requires
+transition-of-requires c κs = search needs
 
 returns : tie.Need-returns
-unfolding transitionIn
-returns c =
-    rw (c .before .before .before .before .before .before .time-at .ensures, c .before .before .before .before .before .source-of .ensures, c .before .before .before .before .target-of .ensures, c .before .before .before .took-of .ensures, c .before .before .reason-of .ensures, c .before .result-of .ensures, c .signals-of .ensures, c .before .before .before .before .before .before .before .behind .ensures)
+returns c = c .transition-of .ensures ∙ c .before .whole-of .ensures
 
 pub transition-in-spec : {M : Type 1} → statement M
 transition-in-spec =
     tie.close
     (tie.spec
-    behind-requires
-    time-at-requires
-    source-of-requires
-    target-of-requires
-    took-of-requires
-    reason-of-requires
-    result-of-requires
-    signals-of-requires
+    slice-aggregate-pad
+    pad-requires
+    slice-aggregate-whole-of
+    whole-of-requires
+    transition-of-requires
     returns)
