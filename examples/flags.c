@@ -1,7 +1,7 @@
 /* Flags: any number but 0 is true where one is handed in, and 0 or 1 is given. A request whose
  * conditions are present by 1, then the same by 2 and 255, with one that is absent; a diagnostic
  * request by kind 200. Then the flags of three elements of a report frame: one of another ID, one
- * with no transition, one with a transition. */
+ * with no event, one with an event. */
 #include <stdio.h>
 
 #include "dultxibe.h"

@@ -1,8 +1,10 @@
-/* A station logs a transition across the counter's rollover, takes a requester's request for
- * transitions of 15 TUs or more, and reports it: departure 4,294,967,290, arrival 10, so 16 ms, 15
- * TUs. Then it takes a request for diagnostics, one that it is incapable of and its identity. The
- * requester writes the requests and reads the reports, with the octets behind each status: time and
- * transition, or the identity's subelements. */
+/* A station logs a transition across the counter's rollover, departure 4,294,967,290 and arrival 10, so
+ * 16 ms, 15 TUs; then an RSNA event, once refused for an RSN element that is cut, and a peer link. It
+ * takes a requester's request for transitions of 15 TUs or more, RSNA events by EAP method and peer
+ * links on any channel of a regulatory class, and reports one of each. Then it takes a request for
+ * diagnostics, one that it is incapable of and its identity. The requester writes the requests and
+ * reads the reports, with the octets behind each status: time and event, whose fields it reads by the
+ * element's type, or the identity's subelements. */
 #include <stdio.h>
 
 #include "dultxibe.h"
@@ -22,6 +24,30 @@ static const struct dultxibe_transition transition = {
     .result = 0,
     .signals = {110, 40, 150, 60},
     .departure = 4294967290u,
+};
+
+/* A login that failed. EAP method 254: the vendor 00:50:c2, its type 1. */
+static const struct dultxibe_rsna_event login = {
+    .time = {0, 0, 1, 0, 0, 1, 1, 235, 7}, /* 2027-01-01 00:00:01.000 */
+    .target = {2, 1, 1, 1, 1, 2},
+    .authentication = {0, 15, 172, 1},
+    .method = {254, 0, 80, 194, 0, 0, 0, 1},
+    .result = 1,
+};
+
+/* Version 1, CCMP for the group and for pairs, authentication 00-0F-AC:1. */
+static const uint8_t rsn[22] = {48, 20,  1, 0, 0, 15, 172, 4,   1, 0, 0,
+                                15, 172, 4, 1, 0, 0,  15,  172, 1, 0, 0};
+
+/* A direct link, active for 10,000 seconds at an unknown time. */
+static const struct dultxibe_peer_link direct_link = {
+    .time = {255, 255, 255, 255, 255, 255, 255, 255, 255},
+    .peer = {2, 2, 2, 2, 2, 2},
+    .regulatory_class = 12,
+    .channel = 6,
+    .power = 20,
+    .connection = {16, 39, 0},
+    .status = 1,
 };
 
 static void print_reply(const char *call, struct dultxibe_reply reply) {
@@ -46,13 +72,58 @@ static void print_octets(const uint8_t *octets, size_t length) {
     printf("\n");
 }
 
-/* An element's fields, and the octets behind its status. */
+static void print_field(const char *name, const uint8_t *octets, size_t length) {
+    printf("  %s ", name);
+    print_octets(octets, length);
+}
+
+static void print_transition(struct dultxibe_transition_report e) {
+    print_field("time", e.time, sizeof e.time);
+    print_field("source", e.source, sizeof e.source);
+    print_field("target", e.target, sizeof e.target);
+    print_field("signals", e.signals, sizeof e.signals);
+    printf("  took %u TU reason %u result %u\n", e.took, e.reason, e.result);
+}
+
+static void print_rsna(struct dultxibe_rsna_report e) {
+    print_field("time", e.time, sizeof e.time);
+    print_field("target", e.target, sizeof e.target);
+    print_field("authentication", e.authentication, sizeof e.authentication);
+    print_field("method", e.method, sizeof e.method);
+    print_field("rsn", e.rsn, e.rsn_length);
+    printf("  result %u\n", e.result);
+}
+
+static void print_peer_link(struct dultxibe_peer_link_report e) {
+    print_field("time", e.time, sizeof e.time);
+    print_field("peer", e.peer, sizeof e.peer);
+    print_field("connection", e.connection, sizeof e.connection);
+    printf("  class %u channel %u power %u status %u\n", e.regulatory_class, e.channel, e.power,
+           e.status);
+}
+
+/* The fields of an event of a type. */
+static void print_event(uint8_t type, const uint8_t *octets, size_t length) {
+    switch (type) {
+    case DULTXIBE_TRANSITION:
+        print_transition(dultxibe_read_transition(octets, length));
+        break;
+    case DULTXIBE_RSNA:
+        print_rsna(dultxibe_read_rsna(octets, length));
+        break;
+    case DULTXIBE_PEER_LINK:
+        print_peer_link(dultxibe_read_peer_link(octets, length));
+        break;
+    }
+}
+
+/* An element's fields, the octets behind its status, and the event that they are. */
 static void print_element(struct dultxibe_step step, const uint8_t *frame) {
     struct dultxibe_report_element e = step.element;
-    printf("element token %u type %u status %u", e.token, e.type, e.status);
-    if (e.logged) printf(" transition %u TU", e.event.took);
-    printf(" subelements %zu octets %zu\n", e.subs, e.length);
+    printf("element token %u type %u status %u subelements %zu octets %zu\n", e.token, e.type,
+           e.status, e.subs, e.length);
     if (e.length > 0) print_octets(frame + step.rest, e.length);
+    if (e.logged) print_event(e.type, frame + step.rest, e.length);
 }
 
 static void print_report(const uint8_t *frame, size_t length) {
@@ -75,6 +146,38 @@ static size_t write_request(struct dultxibe_request asked, uint8_t *request, siz
     return wrote.length;
 }
 
+/* The first requester's requests. */
+static struct dultxibe_request ask_for_events(void) {
+    struct dultxibe_request asked = {.kind = DULTXIBE_EVENT, .dialog = 7, .count = 3};
+    struct dultxibe_request_element *e = asked.elements;
+    e[0].token = 5;
+    e[0].type = DULTXIBE_TRANSITION;
+    e[0].limit = 4;
+    e[0].filter[2] = (struct dultxibe_condition){.present = 1, .octets = {15, 0}};
+    e[1].token = 6;
+    e[1].type = DULTXIBE_RSNA;
+    e[1].limit = 4;
+    e[1].filter[2] =
+        (struct dultxibe_condition){.present = 1, .octets = {254, 0, 80, 194, 0, 0, 0, 1}};
+    e[2].token = 8;
+    e[2].type = DULTXIBE_PEER_LINK;
+    e[2].limit = 4;
+    e[2].filter[1] = (struct dultxibe_condition){.present = 1, .octets = {12, 0}};
+    return asked;
+}
+
+static struct dultxibe_request ask_for_diagnostics(void) {
+    struct dultxibe_request asked = {.kind = DULTXIBE_DIAGNOSTIC, .dialog = 9, .count = 2};
+    struct dultxibe_request_element *e = asked.elements;
+    e[0].token = 3;
+    e[0].type = 2;
+    e[0].timeout = 2;
+    e[1].token = 4;
+    e[1].type = 1;
+    e[1].timeout = 2;
+    return asked;
+}
+
 /* The station's report to the first requester, and what that reads in it. */
 static struct dultxibe_outcome give_report(struct dultxibe_station station, uint32_t reading,
                                            uint8_t kind) {
@@ -91,34 +194,28 @@ static struct dultxibe_outcome give_report(struct dultxibe_station station, uint
 
 int main(void) {
     uint8_t request[267];
-
-    struct dultxibe_request events = {.kind = DULTXIBE_EVENT, .dialog = 7, .count = 1};
-    events.elements[0].token = 5;
-    events.elements[0].limit = 4;
-    events.elements[0].filter[2] = (struct dultxibe_condition){.present = 1, .octets = {15, 0}};
-    size_t length = write_request(events, request, sizeof request);
+    size_t length = write_request(ask_for_events(), request, sizeof request);
 
     struct dultxibe_outcome o = dultxibe_setup(identity, sizeof identity, requesters, 2);
     print_reply("setup", o.reply);
-    o = dultxibe_log(o.station, 10, transition);
-    print_reply("log", o.reply);
-    o = dultxibe_frame(o.station, 11, address, stranger, request, length);
+    o = dultxibe_log_transition(o.station, 10, transition);
+    print_reply("log a transition", o.reply);
+    o = dultxibe_log_rsna(o.station, 11, login, rsn, sizeof rsn - 1);
+    print_reply("log an RSNA event, cut", o.reply);
+    o = dultxibe_log_rsna(o.station, 12, login, rsn, sizeof rsn);
+    print_reply("log an RSNA event", o.reply);
+    o = dultxibe_log_peer_link(o.station, 13, direct_link);
+    print_reply("log a peer link", o.reply);
+    o = dultxibe_frame(o.station, 14, address, stranger, request, length);
     print_reply("stranger's frame", o.reply);
-    o = dultxibe_frame(o.station, 12, address, requesters[0], request, length);
-    print_reply("frame", o.reply);
-    o = give_report(o.station, 13, DULTXIBE_EVENT);
-    o = give_report(o.station, 14, DULTXIBE_EVENT);
-
-    struct dultxibe_request diagnostics = {.kind = DULTXIBE_DIAGNOSTIC, .dialog = 9, .count = 2};
-    diagnostics.elements[0].token = 3;
-    diagnostics.elements[0].type = 2;
-    diagnostics.elements[0].timeout = 2;
-    diagnostics.elements[1].token = 4;
-    diagnostics.elements[1].type = 1;
-    diagnostics.elements[1].timeout = 2;
-    length = write_request(diagnostics, request, sizeof request);
     o = dultxibe_frame(o.station, 15, address, requesters[0], request, length);
     print_reply("frame", o.reply);
-    give_report(o.station, 16, DULTXIBE_DIAGNOSTIC);
+    o = give_report(o.station, 16, DULTXIBE_EVENT);
+    o = give_report(o.station, 17, DULTXIBE_EVENT);
+
+    length = write_request(ask_for_diagnostics(), request, sizeof request);
+    o = dultxibe_frame(o.station, 18, address, requesters[0], request, length);
+    print_reply("frame", o.reply);
+    give_report(o.station, 19, DULTXIBE_DIAGNOSTIC);
     return 0;
 }

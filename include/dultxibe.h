@@ -57,7 +57,8 @@ enum {
     DULTXIBE_CAUSE_BAD_TIME = 14,           /* out of range, not unknown; place when reading: element */
     DULTXIBE_CAUSE_BAD_REQUESTER_LIST = 15, /* empty, over four, repeated, or with a group address */
     DULTXIBE_CAUSE_BAD_IDENTITY = 16,       /* no good identity */
-    DULTXIBE_CAUSE_BAD_REPORT_BODY = 17     /* bad status, or length for it; place: element */
+    DULTXIBE_CAUSE_BAD_REPORT_BODY = 17     /* bad status, or length for it; place: element. Logging:
+                                               an RSN element not of 0 or 22 octets */
 };
 
 /* code is one of the four answers. length is 0 but for DULTXIBE_LENGTH; cause and place are 0 but for
@@ -71,6 +72,9 @@ struct dultxibe_reply {
 
 /* What a frame asks for or reports. A function takes any number but 0 for DULTXIBE_DIAGNOSTIC. */
 enum { DULTXIBE_EVENT = 0, DULTXIBE_DIAGNOSTIC = 1 };
+
+/* Event types that are logged and reported; every other one is answered DULTXIBE_INCAPABLE. */
+enum { DULTXIBE_TRANSITION = 0, DULTXIBE_RSNA = 1, DULTXIBE_PEER_LINK = 2 };
 
 /* Statuses of a report element. */
 enum {
@@ -86,12 +90,12 @@ enum {
 /* A station: its identity, its log of 64 events, its requesters. What it holds is not for the
  * caller, who copies it as a whole. */
 struct dultxibe_station {
-    uint64_t opaque[575];
+    uint64_t opaque[775];
 };
 
-/* A transition to be logged. time: milliseconds 2, second, minute, hour, day, month, year 2, each in
- * its range or all ones (unknown). signals: source RCPI, source RSNI, target RCPI, target RSNI.
- * departure: a reading. */
+/* A transition to be logged. time, of every event: milliseconds 2, second, minute, hour, day, month,
+ * year 2, each in its range or all ones (unknown). signals: source RCPI, source RSNI, target RCPI,
+ * target RSNI. departure: a reading. */
 struct dultxibe_transition {
     uint8_t time[9];
     uint8_t source[6];
@@ -100,6 +104,28 @@ struct dultxibe_transition {
     uint16_t result;
     uint8_t signals[4];
     uint32_t departure;
+};
+
+/* An RSNA event to be logged. method, the EAP method: eight octets where its first is 254, else that
+ * one alone; what stands past them is not read. */
+struct dultxibe_rsna_event {
+    uint8_t time[9];
+    uint8_t target[6];
+    uint8_t authentication[4];
+    uint8_t method[8];
+    uint8_t result;
+};
+
+/* A peer-to-peer link event to be logged. connection, the connection time, goes out as it is handed
+ * in. */
+struct dultxibe_peer_link {
+    uint8_t time[9];
+    uint8_t peer[6];
+    uint8_t regulatory_class;
+    uint8_t channel;
+    uint8_t power;
+    uint8_t connection[3];
+    uint8_t status;
 };
 
 /* What a call gives. */
@@ -118,8 +144,18 @@ struct dultxibe_outcome dultxibe_setup(const uint8_t *identity, size_t length,
 struct dultxibe_outcome dultxibe_tick(struct dultxibe_station station, uint32_t reading);
 
 /* Logs a transition that ends at the reading. Accepted; or refused by BAD_TIME. */
-struct dultxibe_outcome dultxibe_log(struct dultxibe_station station, uint32_t reading,
-                                     struct dultxibe_transition transition);
+struct dultxibe_outcome dultxibe_log_transition(struct dultxibe_station station, uint32_t reading,
+                                                struct dultxibe_transition transition);
+
+/* Logs an RSNA event with its RSN element of 22 octets, or without one (length 0). Accepted; or
+ * refused by BAD_TIME, then BAD_REPORT_BODY (another length). */
+struct dultxibe_outcome dultxibe_log_rsna(struct dultxibe_station station, uint32_t reading,
+                                          struct dultxibe_rsna_event event, const uint8_t *rsn,
+                                          size_t length);
+
+/* Logs a peer-to-peer link event. Accepted; or refused by BAD_TIME. */
+struct dultxibe_outcome dultxibe_log_peer_link(struct dultxibe_station station, uint32_t reading,
+                                               struct dultxibe_peer_link event);
 
 /* Takes a request frame. Accepted; or refused by GROUP_DESTINATION, UNKNOWN_REQUESTER (its source),
  * or one of 1 to 10 (the frame). */
@@ -146,15 +182,21 @@ struct dultxibe_outcome dultxibe_change_network(struct dultxibe_station station,
 /* ---- the requester's side */
 
 /* A condition: whether it is present (a flag), and its octets as they go on the air, least octet
- * first. */
+ * first; those past its length are not read. */
 struct dultxibe_condition {
     uint8_t present;
-    uint8_t octets[6];
+    uint8_t octets[8];
 };
 
-/* A request element. limit is an event's; timeout, in seconds, a diagnostic's. filter, for event type
- * 0, in this order: target BSSID (6 octets), source BSSID (6), transition time threshold in TUs (2),
- * match value (1), frequent transition (count threshold 1, interval in minutes 2). */
+/* A request element. limit is an event's; timeout, in seconds, a diagnostic's. filter, by event type,
+ * in this order:
+ * - DULTXIBE_TRANSITION: target BSSID (6 octets), source BSSID (6), transition time threshold in TUs
+ *   (2), match value (1), frequent transition (count threshold 1, interval in minutes 2);
+ * - DULTXIBE_RSNA: target BSSID (6), authentication type (4), EAP method (8 where its first octet is
+ *   254, else 1), match value of the result (1);
+ * - DULTXIBE_PEER_LINK: peer address (6), regulatory class and channel (1 and 1; channel 0 is any).
+ * A match value's bit 0 admits result 0, bit 1 every other. Conditions that a type does not have are
+ * not written. */
 struct dultxibe_request_element {
     uint8_t token;
     uint8_t type;
@@ -181,19 +223,8 @@ struct dultxibe_report_frame {
     size_t count;
 };
 
-/* A reported transition; took is its transition time in TUs. */
-struct dultxibe_event {
-    uint8_t time[9];
-    uint8_t source[6];
-    uint8_t target[6];
-    uint16_t took;
-    uint8_t reason;
-    uint16_t result;
-    uint8_t signals[4];
-};
-
 /* A report element: length octets stand behind its status; subs of them subelements in a diagnostic;
- * a transition where logged (a flag), else event is all zeros. */
+ * an event of its type where logged (a flag). */
 struct dultxibe_report_element {
     uint8_t token;
     uint8_t type;
@@ -201,7 +232,6 @@ struct dultxibe_report_element {
     uint8_t logged;
     size_t length;
     size_t subs;
-    struct dultxibe_event event;
 };
 
 /* What stands at a position of a report frame: refused by a cause at a place; or cause 0, and an
@@ -214,6 +244,40 @@ struct dultxibe_step {
     size_t rest;
     size_t next;
     struct dultxibe_report_element element;
+};
+
+/* A reported transition; took is its transition time in TUs. */
+struct dultxibe_transition_report {
+    uint8_t time[9];
+    uint8_t source[6];
+    uint8_t target[6];
+    uint16_t took;
+    uint8_t reason;
+    uint16_t result;
+    uint8_t signals[4];
+};
+
+/* A reported RSNA event. method has zeros past its length. rsn_length is 22, or 0 where there is no RSN
+ * element, and rsn all zeros. */
+struct dultxibe_rsna_report {
+    uint8_t time[9];
+    uint8_t target[6];
+    uint8_t authentication[4];
+    uint8_t method[8];
+    uint8_t result;
+    uint8_t rsn[22];
+    size_t rsn_length;
+};
+
+/* A reported peer-to-peer link event. */
+struct dultxibe_peer_link_report {
+    uint8_t time[9];
+    uint8_t peer[6];
+    uint8_t regulatory_class;
+    uint8_t channel;
+    uint8_t power;
+    uint8_t connection[3];
+    uint8_t status;
 };
 
 /* Where the first element of a frame stands. */
@@ -235,6 +299,15 @@ struct dultxibe_report_frame dultxibe_read_report(const uint8_t destination[6],
  * BAD_REPORT_BODY, BAD_TIME or BAD_SUBELEMENT where the frame is. */
 struct dultxibe_step dultxibe_next_element(uint8_t kind, size_t position, const uint8_t *frame,
                                            size_t length);
+
+/* The fields of an event of each type, from the octets behind the status of a logged element: at rest,
+ * length of them. Of any other octets a field is what stands in its place, 0 past the end, and
+ * rsn_length how many stand behind the result. */
+struct dultxibe_transition_report dultxibe_read_transition(const uint8_t *octets, size_t length);
+
+struct dultxibe_rsna_report dultxibe_read_rsna(const uint8_t *octets, size_t length);
+
+struct dultxibe_peer_link_report dultxibe_read_peer_link(const uint8_t *octets, size_t length);
 
 /* ---- sizes and offsets */
 
@@ -261,18 +334,32 @@ DULTXIBE_AT(dultxibe_transition, result, 22);
 DULTXIBE_AT(dultxibe_transition, signals, 24);
 DULTXIBE_AT(dultxibe_transition, departure, 28);
 
+DULTXIBE_SIZE(dultxibe_rsna_event, 28);
+DULTXIBE_AT(dultxibe_rsna_event, target, 9);
+DULTXIBE_AT(dultxibe_rsna_event, authentication, 15);
+DULTXIBE_AT(dultxibe_rsna_event, method, 19);
+DULTXIBE_AT(dultxibe_rsna_event, result, 27);
+
+DULTXIBE_SIZE(dultxibe_peer_link, 22);
+DULTXIBE_AT(dultxibe_peer_link, peer, 9);
+DULTXIBE_AT(dultxibe_peer_link, regulatory_class, 15);
+DULTXIBE_AT(dultxibe_peer_link, channel, 16);
+DULTXIBE_AT(dultxibe_peer_link, power, 17);
+DULTXIBE_AT(dultxibe_peer_link, connection, 18);
+DULTXIBE_AT(dultxibe_peer_link, status, 21);
+
 DULTXIBE_AT(dultxibe_outcome, reply, sizeof(struct dultxibe_station));
 
-DULTXIBE_SIZE(dultxibe_condition, 7);
+DULTXIBE_SIZE(dultxibe_condition, 9);
 DULTXIBE_AT(dultxibe_condition, octets, 1);
 
-DULTXIBE_SIZE(dultxibe_request_element, 40);
+DULTXIBE_SIZE(dultxibe_request_element, 50);
 DULTXIBE_AT(dultxibe_request_element, type, 1);
 DULTXIBE_AT(dultxibe_request_element, timeout, 2);
 DULTXIBE_AT(dultxibe_request_element, limit, 4);
 DULTXIBE_AT(dultxibe_request_element, filter, 5);
 
-DULTXIBE_SIZE(dultxibe_request, 336);
+DULTXIBE_SIZE(dultxibe_request, 416);
 DULTXIBE_AT(dultxibe_request, dialog, 1);
 DULTXIBE_AT(dultxibe_request, count, 8);
 DULTXIBE_AT(dultxibe_request, elements, 16);
@@ -283,28 +370,43 @@ DULTXIBE_AT(dultxibe_report_frame, dialog, 2);
 DULTXIBE_AT(dultxibe_report_frame, place, 8);
 DULTXIBE_AT(dultxibe_report_frame, count, 16);
 
-DULTXIBE_SIZE(dultxibe_event, 32);
-DULTXIBE_AT(dultxibe_event, source, 9);
-DULTXIBE_AT(dultxibe_event, target, 15);
-DULTXIBE_AT(dultxibe_event, took, 22);
-DULTXIBE_AT(dultxibe_event, reason, 24);
-DULTXIBE_AT(dultxibe_event, result, 26);
-DULTXIBE_AT(dultxibe_event, signals, 28);
-
-DULTXIBE_SIZE(dultxibe_report_element, 56);
+DULTXIBE_SIZE(dultxibe_report_element, 24);
 DULTXIBE_AT(dultxibe_report_element, type, 1);
 DULTXIBE_AT(dultxibe_report_element, status, 2);
 DULTXIBE_AT(dultxibe_report_element, logged, 3);
 DULTXIBE_AT(dultxibe_report_element, length, 8);
 DULTXIBE_AT(dultxibe_report_element, subs, 16);
-DULTXIBE_AT(dultxibe_report_element, event, 24);
 
-DULTXIBE_SIZE(dultxibe_step, 88);
+DULTXIBE_SIZE(dultxibe_step, 56);
 DULTXIBE_AT(dultxibe_step, found, 1);
 DULTXIBE_AT(dultxibe_step, place, 8);
 DULTXIBE_AT(dultxibe_step, rest, 16);
 DULTXIBE_AT(dultxibe_step, next, 24);
 DULTXIBE_AT(dultxibe_step, element, 32);
+
+DULTXIBE_SIZE(dultxibe_transition_report, 32);
+DULTXIBE_AT(dultxibe_transition_report, source, 9);
+DULTXIBE_AT(dultxibe_transition_report, target, 15);
+DULTXIBE_AT(dultxibe_transition_report, took, 22);
+DULTXIBE_AT(dultxibe_transition_report, reason, 24);
+DULTXIBE_AT(dultxibe_transition_report, result, 26);
+DULTXIBE_AT(dultxibe_transition_report, signals, 28);
+
+DULTXIBE_SIZE(dultxibe_rsna_report, 64);
+DULTXIBE_AT(dultxibe_rsna_report, target, 9);
+DULTXIBE_AT(dultxibe_rsna_report, authentication, 15);
+DULTXIBE_AT(dultxibe_rsna_report, method, 19);
+DULTXIBE_AT(dultxibe_rsna_report, result, 27);
+DULTXIBE_AT(dultxibe_rsna_report, rsn, 28);
+DULTXIBE_AT(dultxibe_rsna_report, rsn_length, 56);
+
+DULTXIBE_SIZE(dultxibe_peer_link_report, 22);
+DULTXIBE_AT(dultxibe_peer_link_report, peer, 9);
+DULTXIBE_AT(dultxibe_peer_link_report, regulatory_class, 15);
+DULTXIBE_AT(dultxibe_peer_link_report, channel, 16);
+DULTXIBE_AT(dultxibe_peer_link_report, power, 17);
+DULTXIBE_AT(dultxibe_peer_link_report, connection, 18);
+DULTXIBE_AT(dultxibe_peer_link_report, status, 21);
 
 #undef DULTXIBE_SIZE
 #undef DULTXIBE_AT

@@ -14,7 +14,7 @@ pub struct Reply {
 #[derive(Clone, Copy)]
 #[repr(C)]
 pub struct Station {
-    opaque: [u64; 575],
+    opaque: [u64; 775],
 }
 
 #[derive(Clone, Copy)]
@@ -36,6 +36,28 @@ pub struct Transition {
     pub departure: u32,
 }
 
+#[derive(Clone, Copy)]
+#[repr(C)]
+pub struct RsnaEvent {
+    pub time: [u8; 9],
+    pub target: [u8; 6],
+    pub authentication: [u8; 4],
+    pub method: [u8; 8],
+    pub result: u8,
+}
+
+#[derive(Clone, Copy)]
+#[repr(C)]
+pub struct PeerLink {
+    pub time: [u8; 9],
+    pub peer: [u8; 6],
+    pub class: u8,
+    pub channel: u8,
+    pub power: u8,
+    pub connection: [u8; 3],
+    pub status: u8,
+}
+
 #[derive(Clone, Copy, Debug)]
 #[repr(C)]
 pub struct ReportFrame {
@@ -48,18 +70,6 @@ pub struct ReportFrame {
 
 #[derive(Clone, Copy)]
 #[repr(C)]
-pub struct Event {
-    pub time: [u8; 9],
-    pub source: [u8; 6],
-    pub target: [u8; 6],
-    pub took: u16,
-    pub reason: u8,
-    pub result: u16,
-    pub signals: [u8; 4],
-}
-
-#[derive(Clone, Copy)]
-#[repr(C)]
 pub struct Element {
     pub token: u8,
     pub ty: u8,
@@ -67,7 +77,6 @@ pub struct Element {
     pub logged: u8,
     pub length: usize,
     pub subs: usize,
-    pub event: Event,
 }
 
 #[derive(Clone, Copy)]
@@ -81,10 +90,49 @@ pub struct Step {
     pub element: Element,
 }
 
-const _: () = assert!(size_of::<Reply>() == 24 && size_of::<Station>() == 4600);
-const _: () = assert!(size_of::<Outcome>() == 4624 && size_of::<Transition>() == 32);
-const _: () = assert!(size_of::<ReportFrame>() == 24 && size_of::<Step>() == 88);
-const _: () = assert!(offset_of!(Step, element) == 32 && offset_of!(Element, event) == 24);
+#[derive(Clone, Copy)]
+#[repr(C)]
+pub struct TransitionReport {
+    pub time: [u8; 9],
+    pub source: [u8; 6],
+    pub target: [u8; 6],
+    pub took: u16,
+    pub reason: u8,
+    pub result: u16,
+    pub signals: [u8; 4],
+}
+
+#[derive(Clone, Copy)]
+#[repr(C)]
+pub struct RsnaReport {
+    pub time: [u8; 9],
+    pub target: [u8; 6],
+    pub authentication: [u8; 4],
+    pub method: [u8; 8],
+    pub result: u8,
+    pub rsn: [u8; 22],
+    pub rsn_length: usize,
+}
+
+#[derive(Clone, Copy)]
+#[repr(C)]
+pub struct PeerLinkReport {
+    pub time: [u8; 9],
+    pub peer: [u8; 6],
+    pub class: u8,
+    pub channel: u8,
+    pub power: u8,
+    pub connection: [u8; 3],
+    pub status: u8,
+}
+
+const _: () = assert!(size_of::<Reply>() == 24 && size_of::<Station>() == 6200);
+const _: () = assert!(size_of::<Outcome>() == 6224 && size_of::<Transition>() == 32);
+const _: () = assert!(size_of::<RsnaEvent>() == 28 && size_of::<PeerLink>() == 22);
+const _: () = assert!(size_of::<ReportFrame>() == 24 && size_of::<Step>() == 56);
+const _: () = assert!(offset_of!(Step, element) == 32 && size_of::<Element>() == 24);
+const _: () = assert!(size_of::<TransitionReport>() == 32 && size_of::<PeerLinkReport>() == 22);
+const _: () = assert!(size_of::<RsnaReport>() == 64 && offset_of!(RsnaReport, rsn_length) == 56);
 
 // C returns an outcome through a pointer that goes before the parameters and comes back (x86-64, System
 // V): named here, so that the outcome is written where the caller keeps it and no copy is added.
@@ -97,11 +145,25 @@ extern "C" {
         count: usize,
     ) -> *mut Outcome;
     pub fn dultxibe_tick(outcome: *mut Outcome, station: Station, reading: u32) -> *mut Outcome;
-    pub fn dultxibe_log(
+    pub fn dultxibe_log_transition(
         outcome: *mut Outcome,
         station: Station,
         reading: u32,
         transition: Transition,
+    ) -> *mut Outcome;
+    pub fn dultxibe_log_rsna(
+        outcome: *mut Outcome,
+        station: Station,
+        reading: u32,
+        event: RsnaEvent,
+        rsn: *const u8,
+        length: usize,
+    ) -> *mut Outcome;
+    pub fn dultxibe_log_peer_link(
+        outcome: *mut Outcome,
+        station: Station,
+        reading: u32,
+        event: PeerLink,
     ) -> *mut Outcome;
     pub fn dultxibe_frame(
         outcome: *mut Outcome,
@@ -137,4 +199,7 @@ extern "C" {
     ) -> *mut Outcome;
     pub fn dultxibe_read_report(destination: *const [u8; 6], frame: *const u8, length: usize) -> ReportFrame;
     pub fn dultxibe_next_element(kind: u8, position: usize, frame: *const u8, length: usize) -> Step;
+    pub fn dultxibe_read_transition(octets: *const u8, length: usize) -> TransitionReport;
+    pub fn dultxibe_read_rsna(octets: *const u8, length: usize) -> RsnaReport;
+    pub fn dultxibe_read_peer_link(octets: *const u8, length: usize) -> PeerLinkReport;
 }

@@ -35,7 +35,9 @@ type Answer = firmware::Reply;
 trait Side: Copy {
     fn set_up() -> Self;
     fn tick(&mut self, reading: u32) -> Answer;
-    fn log(&mut self, reading: u32, t: &twin::Transition) -> Answer;
+    fn log_transition(&mut self, reading: u32, t: &twin::Transition) -> Answer;
+    fn log_rsna(&mut self, reading: u32, e: &twin::RsnaEvent, rsn: &[u8]) -> Answer;
+    fn log_peer_link(&mut self, reading: u32, e: &twin::PeerLink) -> Answer;
     fn frame(&mut self, reading: u32, octets: &[u8]) -> Answer;
     fn report(&mut self, reading: u32, kind: u8, buffer: &mut [u8]) -> Answer;
     fn roam(&mut self, reading: u32, list: &[[u8; 6]]) -> Answer;
@@ -61,7 +63,7 @@ impl Side for firmware::Outcome {
     }
 
     #[inline(never)]
-    fn log(&mut self, reading: u32, t: &twin::Transition) -> Answer {
+    fn log_transition(&mut self, reading: u32, t: &twin::Transition) -> Answer {
         let t = firmware::Transition {
             time: t.time,
             source: t.source,
@@ -71,7 +73,35 @@ impl Side for firmware::Outcome {
             signals: t.signals,
             departure: t.departure,
         };
-        unsafe { firmware::dultxibe_log(self, self.station, reading, t) };
+        unsafe { firmware::dultxibe_log_transition(self, self.station, reading, t) };
+        self.reply
+    }
+
+    #[inline(never)]
+    fn log_rsna(&mut self, reading: u32, e: &twin::RsnaEvent, rsn: &[u8]) -> Answer {
+        let e = firmware::RsnaEvent {
+            time: e.time,
+            target: e.target,
+            authentication: e.authentication,
+            method: e.method.0,
+            result: e.result,
+        };
+        unsafe { firmware::dultxibe_log_rsna(self, self.station, reading, e, rsn.as_ptr(), rsn.len()) };
+        self.reply
+    }
+
+    #[inline(never)]
+    fn log_peer_link(&mut self, reading: u32, e: &twin::PeerLink) -> Answer {
+        let e = firmware::PeerLink {
+            time: e.time,
+            peer: e.peer,
+            class: e.class,
+            channel: e.channel,
+            power: e.power,
+            connection: e.connection,
+            status: e.status,
+        };
+        unsafe { firmware::dultxibe_log_peer_link(self, self.station, reading, e) };
         self.reply
     }
 
@@ -114,11 +144,31 @@ impl Side for firmware::Outcome {
                 sum += e.token as u64 + e.ty as u64 + e.status as u64;
             }
             if e.logged != 0 {
-                sum += e.event.took as u64 + e.event.target[5] as u64 + e.event.result as u64;
+                sum += read_event(e.ty, &octets[step.rest..step.rest + e.length]);
             }
             at = step.next;
         }
         (report.count, sum)
+    }
+}
+
+/// A sum over the fields of an event of this type, from the octets behind its status.
+fn read_event(ty: u8, octets: &[u8]) -> u64 {
+    let (start, length) = (octets.as_ptr(), octets.len());
+    match ty {
+        0 => {
+            let event = unsafe { firmware::dultxibe_read_transition(start, length) };
+            event.took as u64 + event.target[5] as u64 + event.result as u64
+        }
+        1 => {
+            let event = unsafe { firmware::dultxibe_read_rsna(start, length) };
+            let rsn = if event.rsn_length == 0 { 0 } else { event.rsn[21] };
+            event.method[0] as u64 + event.target[5] as u64 + event.result as u64 + rsn as u64
+        }
+        _ => {
+            let event = unsafe { firmware::dultxibe_read_peer_link(start, length) };
+            event.channel as u64 + event.peer[5] as u64 + event.connection[0] as u64
+        }
     }
 }
 
@@ -152,8 +202,18 @@ impl Side for twin::Station {
     }
 
     #[inline(never)]
-    fn log(&mut self, reading: u32, t: &twin::Transition) -> Answer {
-        answer(twin::Station::log(self, reading, t))
+    fn log_transition(&mut self, reading: u32, t: &twin::Transition) -> Answer {
+        answer(twin::Station::log_transition(self, reading, t))
+    }
+
+    #[inline(never)]
+    fn log_rsna(&mut self, reading: u32, e: &twin::RsnaEvent, rsn: &[u8]) -> Answer {
+        answer(twin::Station::log_rsna(self, reading, e, rsn))
+    }
+
+    #[inline(never)]
+    fn log_peer_link(&mut self, reading: u32, e: &twin::PeerLink) -> Answer {
+        answer(twin::Station::log_peer_link(self, reading, e))
     }
 
     #[inline(never)]
@@ -185,9 +245,19 @@ impl Side for twin::Station {
         let mut sum = 0;
         for e in report.elements() {
             sum += e.token as u64 + e.ty as u64 + e.status as u64;
-            if let Some(event) = e.event {
-                sum += event.took as u64 + event.target[5] as u64 + event.result as u64;
-            }
+            sum += match e.event() {
+                Some(twin::Event::Transition(event)) => {
+                    event.took as u64 + event.target[5] as u64 + event.result as u64
+                }
+                Some(twin::Event::Rsna(event)) => {
+                    let rsn = event.rsn.map_or(0, |rsn| rsn[21]);
+                    event.method[0] as u64 + event.target[5] as u64 + event.result as u64 + rsn as u64
+                }
+                Some(twin::Event::PeerLink(event)) => {
+                    event.channel as u64 + event.peer[5] as u64 + event.connection[0] as u64
+                }
+                None => 0,
+            };
         }
         (report.count, sum)
     }
@@ -205,11 +275,55 @@ fn transition(n: u32) -> twin::Transition {
     }
 }
 
+/// An RSNA event, with its EAP method of eight octets one time in four.
+fn rsna(n: u32) -> twin::RsnaEvent {
+    let first = if n % 4 == 0 { 254 } else { 13 };
+    twin::RsnaEvent {
+        time: [231, 3, 59, 59, 23, 31, 12, 234, 7],
+        target: [2, 1, 1, 1, 1, n as u8 % 8],
+        authentication: [0, 15, 172, 1],
+        method: twin::Method([first, 0, 80, 194, 1, 2, 3, n as u8]),
+        result: (n % 3) as u8,
+    }
+}
+
+/// Its RSN element, there one time in four: 64 reports of these have 2,128 octets, which fit a frame.
+fn rsn(n: u32) -> &'static [u8] {
+    const ELEMENT: [u8; 22] = [48, 20, 1, 0, 0, 15, 172, 4, 1, 0, 0, 15, 172, 4, 1, 0, 0, 15, 172, 1, 0, 5];
+    if n % 4 == 1 {
+        &ELEMENT
+    } else {
+        &[]
+    }
+}
+
+fn peer_link(n: u32) -> twin::PeerLink {
+    twin::PeerLink {
+        time: [231, 3, 59, 59, 23, 31, 12, 234, 7],
+        peer: [2, 1, 1, 1, 1, n as u8 % 8],
+        class: 81,
+        channel: n as u8 % 14,
+        power: 20,
+        connection: [n as u8, 1, 0],
+        status: n as u8 % 4,
+    }
+}
+
 /// One event element of type 0 with a limit and subelements.
 fn element(token: u8, limit: u8, subelements: &[u8]) -> Vec<u8> {
-    let mut octets = vec![78, 3 + subelements.len() as u8, token, 0, limit];
+    element_of(0, token, limit, subelements)
+}
+
+/// The same of any type.
+fn element_of(ty: u8, token: u8, limit: u8, subelements: &[u8]) -> Vec<u8> {
+    let mut octets = vec![78, 3 + subelements.len() as u8, token, ty, limit];
     octets.extend(subelements);
     octets
+}
+
+/// One element of each type that is reported.
+fn every_kind() -> Vec<u8> {
+    event_frame(&[0, 1, 2].map(|ty| element_of(ty, ty + 1, 255, &[])))
 }
 
 fn event_frame(elements: &[Vec<u8>]) -> Vec<u8> {
@@ -221,12 +335,25 @@ fn event_frame(elements: &[Vec<u8>]) -> Vec<u8> {
 /// Target of n % 8 = 5, threshold 15 TUs, any result.
 const CONDITIONS: [u8; 15] = [0, 6, 2, 1, 1, 1, 1, 5, 2, 2, 15, 0, 3, 1, 3];
 
+/// Target of n % 8 = 5, authentication type, EAP method 13, any result.
+const RSNA_CONDITIONS: [u8; 20] = [0, 6, 2, 1, 1, 1, 1, 5, 1, 4, 0, 15, 172, 1, 2, 1, 13, 3, 1, 3];
+
 /// More than three within a minute.
 const FREQUENT: [u8; 5] = [4, 3, 3, 1, 0];
 
+/// What fills the log.
+enum Log {
+    Transitions,
+    RsnaEvents,
+    /// The three kinds in turn.
+    Mixed,
+}
+
 enum Call {
     Tick,
-    Log,
+    LogTransition,
+    LogRsna,
+    LogPeerLink,
     Frame(Vec<u8>),
     Report(u8),
     Roam,
@@ -236,46 +363,58 @@ enum Call {
 
 struct Case {
     name: &'static str,
-    /// Whether the log is full.
-    logged: bool,
+    log: Log,
     /// Frames taken in preparation.
     taken: Vec<Vec<u8>>,
     call: Call,
 }
 
 fn cases() -> Vec<Case> {
-    let case = |name, logged, taken, call| Case { name, logged, taken, call };
+    let case = |name, log, taken, call| Case { name, log, taken, call };
     let all = || event_frame(&[element(5, 255, &[])]);
     let chosen = || event_frame(&[element(5, 8, &CONDITIONS)]);
+    let all_rsna = || event_frame(&[element_of(1, 5, 255, &[])]);
+    let chosen_rsna = || event_frame(&[element_of(1, 5, 8, &RSNA_CONDITIONS)]);
     let eight = event_frame(&(1..=8).map(|token| element(token, 4, &CONDITIONS)).collect::<Vec<_>>());
     let diagnostics = || vec![10, 2, 9, 80, 4, 1, 1, 200, 0, 80, 4, 2, 7, 200, 0];
     vec![
-        case("tick, nothing outstanding", true, vec![], Call::Tick),
-        case("tick, two diagnostics", true, vec![diagnostics()], Call::Tick),
-        case("log, full log", true, vec![all()], Call::Log),
-        case("frame, 1 element", true, vec![], Call::Frame(chosen())),
-        case("frame, 8 elements", true, vec![], Call::Frame(eight)),
-        case("report, 8 of 64 events by conditions", true, vec![chosen()], Call::Report(0)),
-        case("report, 64 events", true, vec![all()], Call::Report(0)),
+        case("tick, nothing outstanding", Log::Transitions, vec![], Call::Tick),
+        case("tick, two diagnostics", Log::Transitions, vec![diagnostics()], Call::Tick),
+        case("log, full log", Log::Transitions, vec![all()], Call::LogTransition),
+        case("log an RSNA event, full log", Log::Mixed, vec![all_rsna()], Call::LogRsna),
+        case("log a peer link, full log", Log::Mixed, vec![all_rsna()], Call::LogPeerLink),
+        case("frame, 1 element", Log::Transitions, vec![], Call::Frame(chosen())),
+        case("frame, 8 elements", Log::Transitions, vec![], Call::Frame(eight)),
+        case("report, 8 of 64 events by conditions", Log::Transitions, vec![chosen()], Call::Report(0)),
+        case("report, 64 events", Log::Transitions, vec![all()], Call::Report(0)),
         case(
             "report, 61 of 64 events by frequency",
-            true,
+            Log::Transitions,
             vec![event_frame(&[element(5, 255, &FREQUENT)])],
             Call::Report(0),
         ),
-        case("report, two diagnostics", true, vec![diagnostics()], Call::Report(1)),
-        case("report, nothing", true, vec![], Call::Report(0)),
-        case("move", true, vec![all()], Call::Roam),
-        case("network change", true, vec![all()], Call::ChangeNetwork),
-        case("read a report of 64 events", true, vec![all()], Call::Read),
+        case("report, 8 of 64 RSNA by conditions", Log::RsnaEvents, vec![chosen_rsna()], Call::Report(0)),
+        case("report, 64 RSNA events", Log::RsnaEvents, vec![all_rsna()], Call::Report(0)),
+        case("report, mixed log of 64", Log::Mixed, vec![every_kind()], Call::Report(0)),
+        case("report, two diagnostics", Log::Transitions, vec![diagnostics()], Call::Report(1)),
+        case("report, nothing", Log::Transitions, vec![], Call::Report(0)),
+        case("move", Log::Transitions, vec![all()], Call::Roam),
+        case("network change", Log::Transitions, vec![all()], Call::ChangeNetwork),
+        case("read a report of 64 events", Log::Transitions, vec![all()], Call::Read),
+        case("read a report of a mixed log of 64", Log::Mixed, vec![every_kind()], Call::Read),
     ]
 }
 
 /// A prepared station and, for a reading, the frame that it reads.
 fn prepare<S: Side>(case: &Case) -> (S, Vec<u8>) {
     let mut station = S::set_up();
-    for n in 1..=if case.logged { 64 } else { 0 } {
-        station.log(n * 1000, &transition(n));
+    for n in 1..=64 {
+        let answer = match (&case.log, n % 3) {
+            (Log::Transitions, _) | (Log::Mixed, 0) => station.log_transition(n * 1000, &transition(n)),
+            (Log::RsnaEvents, _) | (Log::Mixed, 1) => station.log_rsna(n * 1000, &rsna(n), rsn(n)),
+            (Log::Mixed, _) => station.log_peer_link(n * 1000, &peer_link(n)),
+        };
+        assert_eq!(answer.code, 0);
     }
     for frame in &case.taken {
         assert_eq!(station.frame(65_000, frame).code, 0);
@@ -328,7 +467,9 @@ impl<S: Side> Runner<S> {
         for (i, station) in stations.iter_mut().enumerate() {
             match &case.call {
                 Call::Tick => given.answers[i] = station.tick(black_box(70_000)),
-                Call::Log => given.answers[i] = station.log(black_box(70_000), &transition(70)),
+                Call::LogTransition => given.answers[i] = station.log_transition(black_box(70_000), &transition(70)),
+                Call::LogRsna => given.answers[i] = station.log_rsna(black_box(70_000), &rsna(69), rsn(69)),
+                Call::LogPeerLink => given.answers[i] = station.log_peer_link(black_box(70_000), &peer_link(70)),
                 Call::Frame(octets) => given.answers[i] = station.frame(black_box(70_000), octets),
                 Call::Report(kind) => given.answers[i] = station.report(black_box(70_000), *kind, &mut given.buffers[i]),
                 Call::Roam => given.answers[i] = station.roam(black_box(70_000), black_box(&CONSOLES)),
@@ -355,9 +496,11 @@ fn probe<S: Side>(station: &mut S) -> Vec<(Answer, Vec<u8>)> {
         let answer = station.report(71_000, kind, &mut buffer);
         given.push((answer, buffer.clone()));
     }
-    station.frame(71_001, &event_frame(&[element(9, 255, &[])]));
-    let answer = station.report(71_002, 0, &mut buffer);
-    given.push((answer, buffer));
+    station.frame(71_001, &every_kind());
+    for _ in 0..2 {
+        let answer = station.report(71_002, 0, &mut buffer);
+        given.push((answer, buffer.clone()));
+    }
     given
 }
 

@@ -1,8 +1,8 @@
 //! Document 01's own cases, with what is printed worked out by hand from the paper; and traces at the
 //! limits of what `replay` reads.
 
+use crate::make_events::BSSIDS;
 use crate::make_identity::STATION;
-use crate::make_requests::BSSIDS;
 use crate::octets::{Address, Kind};
 use crate::station::Logging;
 use crate::trace::{write_record, Record, LONGEST_TRACE};
@@ -49,7 +49,7 @@ pub fn logging(reading: u32, departure: u32) -> Record {
 }
 
 /// 2026-12-31 23:59:58.999.
-const TIME: [u8; 9] = [0xE7, 3, 58, 59, 23, 31, 12, 0xEA, 7];
+pub const TIME: [u8; 9] = [0xE7, 3, 58, 59, 23, 31, 12, 0xEA, 7];
 
 /// A frame from the requester.
 pub fn frame(reading: u32, octets: &[u8]) -> Record {
@@ -79,12 +79,12 @@ pub fn event_element(transition_time: u16) -> String {
 }
 
 /// The records' octets.
-fn trace(records: &[Record]) -> Input {
+pub fn trace(records: &[Record]) -> Input {
     Input::Trace(records.iter().map(write_record).collect())
 }
 
 /// A frame for the program `frame`.
-fn frame_case(title: &'static str, octets: &[u8], printed: &str) -> Case {
+pub fn frame_case(title: &'static str, octets: &[u8], printed: &str) -> Case {
     Case { title, input: Input::Frame(octets.to_vec()), printed: printed.to_string() }
 }
 

@@ -4,7 +4,7 @@ use crate::listing::{list_report_input, list_request};
 use crate::program::Programs;
 use crate::shrink::{shrink_list, shrink_trace};
 use crate::tally::Tally;
-use crate::trace::{hexadecimal, replay};
+use crate::trace::{hexadecimal, replay, run_trace};
 use std::fmt;
 
 /// Two outputs that ought to be one, and the input that they came from.
@@ -68,7 +68,9 @@ pub fn compare_trace(programs: &Programs, tally: &Tally, records: &[Vec<u8>]) ->
     let input = records.concat();
     let printed = programs.run("replay", &input);
     tally.count_printed(&printed);
-    if printed == replay(&input).into_bytes() {
+    let expected = run_trace(&input);
+    if printed == expected.printed.into_bytes() {
+        tally.count_covered(&expected.covered);
         return Ok(printed);
     }
     let shortest = shrink_trace(records, &mut |fewer| {

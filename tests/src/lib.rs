@@ -1,13 +1,18 @@
-//! A separately written reader and gate for document 01, and the differential tests made with it.
+//! A separately written reader and gate for document 01 and request (a) of document 02, and the differential
+//! tests made with it.
 
 // The reader and the gate.
 pub mod clock;
+pub mod condition;
+pub mod event_body;
 pub mod event_request;
 pub mod listing;
 pub mod octets;
+pub mod peer_link;
 pub mod refusal;
 pub mod report;
 pub mod request;
+pub mod rsna;
 pub mod setup;
 pub mod station;
 pub mod trace;
@@ -16,6 +21,8 @@ pub mod transition;
 // Made-up input.
 pub mod cases;
 pub mod damage;
+pub mod kind_cases;
+pub mod make_events;
 pub mod make_identity;
 pub mod make_reports;
 pub mod make_requests;
@@ -25,6 +32,7 @@ pub mod random;
 // The runner.
 pub mod answers;
 pub mod compare;
+pub mod covered;
 pub mod independence;
 pub mod phases;
 pub mod program;

@@ -1,10 +1,14 @@
 //! The exact text of the programs `frame` and `report`.
 
+use crate::event_body::EventBody;
 use crate::octets::{address_of, u16_of, Address, Kind};
+use crate::peer_link::PeerLink;
 use crate::refusal::refusal;
 use crate::report::{read_report, ReportElement, ReportFrame, Rest};
 use crate::request::{read_request, RequestElement};
-use crate::transition::Time;
+use crate::rsna::RsnaEvent;
+use crate::trace::hexadecimal;
+use crate::transition::{Time, Transition};
 
 /// "It reads one request frame's raw octets from standard input. ... Line one: action, dialog token,
 /// request elements. Then one line each". "A refusal prints one line".
@@ -64,27 +68,14 @@ pub fn report_text(frame: &ReportFrame) -> String {
     first + &lines.collect::<String>()
 }
 
-/// "`element ID token T type Y status S`, followed on the same line, for an event, by ` time ...`; for
-/// status 0 of an event type other than 0 by ` rest N`...; for a diagnostic by ` subs N`."
+/// "`element ID token T type Y status S`, followed on the same line, for an event, by ` time ...`"; for
+/// status 0 of an event type that is not read by "` rest N`"; "for a diagnostic by ` subs N`."
 fn report_line(kind: Kind, element: &ReportElement) -> String {
     let rest = match &element.rest {
         Rest::Nothing => String::new(),
         Rest::Unread(octets) => format!(" rest {octets}"),
         Rest::Subelements(number) => format!(" subs {number}"),
-        Rest::Event(time, transition) => format!(
-            " time {} source {} target {} transition {} reason {} result {} source-rcpi {} source-rsni {} \
-             target-rcpi {} target-rsni {}",
-            time_text(time),
-            address_text(&transition.source),
-            address_text(&transition.target),
-            transition.time,
-            transition.reason,
-            transition.result,
-            transition.signal[0],
-            transition.signal[1],
-            transition.signal[2],
-            transition.signal[3]
-        ),
+        Rest::Event(time, body) => format!(" time {}{}", time_text(time), event_text(body)),
     };
     format!(
         "element {} token {} type {} status {}{}\n",
@@ -93,6 +84,66 @@ fn report_line(kind: Kind, element: &ReportElement) -> String {
         element.ty,
         element.status,
         rest
+    )
+}
+
+/// What stands behind an event's time.
+fn event_text(body: &EventBody) -> String {
+    match body {
+        EventBody::Transition(transition) => transition_text(transition),
+        EventBody::Rsna(rsna) => rsna_text(rsna),
+        EventBody::PeerLink(link) => peer_link_text(link),
+    }
+}
+
+/// "` source 02:01:01:01:01:01 target 02:01:01:01:01:02 transition N reason N result N source-rcpi N
+/// source-rsni N target-rcpi N target-rsni N`".
+fn transition_text(transition: &Transition) -> String {
+    format!(
+        " source {} target {} transition {} reason {} result {} source-rcpi {} source-rsni {} \
+         target-rcpi {} target-rsni {}",
+        colon_text(&transition.source),
+        colon_text(&transition.target),
+        transition.time,
+        transition.reason,
+        transition.result,
+        transition.signal[0],
+        transition.signal[1],
+        transition.signal[2],
+        transition.signal[3]
+    )
+}
+
+/// "` target XX:XX:XX:XX:XX:XX authentication XX:XX:XX:XX eap N`, then for EAP 254 ` vendor XX:XX:XX
+/// vendor-type XX:XX:XX:XX`, then ` result N` and, where an RSN element is there, ` rsn HEX`".
+fn rsna_text(rsna: &RsnaEvent) -> String {
+    let method = rsna.eap.octets();
+    let vendor = match method {
+        [_, vendor @ ..] if vendor.len() == 7 => {
+            format!(" vendor {} vendor-type {}", colon_text(&vendor[..3]), colon_text(&vendor[3..]))
+        }
+        _ => String::new(),
+    };
+    let rsn = if rsna.rsn.is_empty() { String::new() } else { format!(" rsn {}", hexadecimal(&rsna.rsn)) };
+    format!(
+        " target {} authentication {} eap {}{vendor} result {}{rsn}",
+        colon_text(&rsna.target),
+        colon_text(&rsna.authentication),
+        method[0],
+        rsna.result
+    )
+}
+
+/// "` peer XX:XX:XX:XX:XX:XX class N channel N power N connection N peer-status N`".
+fn peer_link_text(link: &PeerLink) -> String {
+    format!(
+        " peer {} class {} channel {} power {} connection {} peer-status {}",
+        colon_text(&link.peer),
+        link.class,
+        link.channel,
+        link.power,
+        link.connection,
+        link.status
     )
 }
 
@@ -121,6 +172,6 @@ fn field_text(value: u16, unknown: u16, digits: usize) -> String {
 }
 
 /// "Addresses are lowercase hexadecimal."
-fn address_text(address: &Address) -> String {
-    address.map(|octet| format!("{octet:02x}")).join(":")
+fn colon_text(octets: &[u8]) -> String {
+    octets.iter().map(|octet| format!("{octet:02x}")).collect::<Vec<_>>().join(":")
 }

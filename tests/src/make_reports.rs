@@ -1,10 +1,9 @@
-//! Made-up report frames, times and transitions.
+//! Made-up report frames.
 
 use crate::damage::{damage, noise, part};
-use crate::make_requests::BSSIDS;
+use crate::make_events::{event_body, time};
 use crate::octets::{Address, Kind};
 use crate::random::Random;
-use crate::transition::{Time, Transition};
 
 /// A report frame and its destination: valid, damaged, or noise.
 pub fn report_frame(random: &mut Random) -> (Address, Vec<u8>) {
@@ -47,28 +46,48 @@ fn valid_report(random: &mut Random, kind: Kind, dialog: u8) -> Vec<u8> {
 fn event_element(random: &mut Random) -> Vec<u8> {
     let token = random.pick(&[0, 1, 5, 255]);
     let mut body = match random.between(0, 9) {
-        0 => vec![token, random.pick(&[0, 1, 255]), random.between(1, 4) as u8],
-        1 => vec![token, 0, 0],
+        0 => vec![token, random.pick(&[0, 1, 2, 255]), random.between(1, 4) as u8],
+        1 => vec![token, random.pick(&[0, 1, 2]), 0],
         2 => {
-            let mut body = vec![token, random.pick(&[1, 2, 3, 221, 255]), 0];
+            let mut body = vec![token, random.pick(&[3, 4, 221, 255]), 0];
             let length = random.pick(&[0, 1, 5, 29, 30, 31, 252]);
             body.extend(random.octets(length));
             body
         }
         _ => {
-            let mut body = vec![token, 0, 0];
+            let ty = random.pick(&[0, 0, 1, 1, 2]);
+            let mut body = vec![token, ty, 0];
             body.extend(time(random, 4));
-            body.extend(transition(random).octets());
+            body.extend(event_body(random, ty).octets());
             body
         }
     };
     if random.percent(2) {
         body[2] = random.pick(&[1, 4, 5, 255]);
     }
-    if random.percent(2) {
-        body.push(0);
+    if random.percent(5) {
+        wrong_event(random, &mut body);
     }
     part(79, &body)
+}
+
+/// Where the EAP method of an RSNA event starts in a body.
+const METHOD: usize = 22;
+
+/// An event body that is too long or too short, of another event's length, or with an EAP method of another
+/// length than its first octet says; at times with a wrong time beside it, so that the order of causes shows.
+fn wrong_event(random: &mut Random, body: &mut Vec<u8>) {
+    if body.len() > 12 && random.percent(30) {
+        body[3..12].copy_from_slice(&time(random, 100));
+    }
+    match random.between(0, 5) {
+        0 => body.push(random.octet()),
+        1 => drop(body.pop()),
+        2 => body.resize(random.pick(&[3, 4, 11, 12, 22, 23, 24, 25, 31, 33, 45, 46, 47, 53]), 0),
+        3 => body[1] = random.pick(&[0, 1, 2, 3]),
+        _ if body.len() > METHOD => body[METHOD] = random.pick(&[13, 253, 254, 254, 255]),
+        _ => body.push(0),
+    }
 }
 
 /// An element of a Diagnostic Report frame.
@@ -84,46 +103,4 @@ fn diagnostic_element(random: &mut Random) -> Vec<u8> {
         body.push(random.octet());
     }
     part(81, &body)
-}
-
-/// A time; `wrong` times in a hundred one field is just out of its range.
-pub fn time(random: &mut Random, wrong: usize) -> Time {
-    let milliseconds = random.pick(&[0u16, 7, 255, 256, 512, 767, 999, 65_535]).to_le_bytes();
-    let year = random.pick(&[0u16, 7, 99, 999, 2026, 9999, 10_000, 65_534, 65_535]).to_le_bytes();
-    let mut time = [
-        milliseconds[0],
-        milliseconds[1],
-        random.pick(&[0, 9, 10, 59, 255]),
-        random.pick(&[0, 9, 10, 59, 255]),
-        random.pick(&[0, 9, 10, 23, 255]),
-        random.pick(&[1, 9, 10, 30, 31, 255]),
-        random.pick(&[1, 2, 9, 10, 12, 255]),
-        year[0],
-        year[1],
-    ];
-    if random.percent(wrong) {
-        let field = random.between(1, 6);
-        if field == 1 {
-            let over = random.pick(&[1000u16, 1023, 32_768, 65_280, 65_534]).to_le_bytes();
-            time[0] = over[0];
-            time[1] = over[1];
-        } else {
-            let wrong_values: [&[u8]; 5] =
-                [&[60, 61, 128, 254], &[60, 61, 254], &[24, 25, 254], &[0, 32, 254], &[0, 13, 254]];
-            time[field] = random.pick(wrong_values[field - 2]);
-        }
-    }
-    time
-}
-
-/// A transition with the BSSIDs that conditions name, and any transition time.
-pub fn transition(random: &mut Random) -> Transition {
-    Transition {
-        source: random.pick(&BSSIDS),
-        target: random.pick(&BSSIDS),
-        time: random.bits() as u16,
-        reason: random.octet(),
-        result: random.pick(&[0, 0, 0, 1, 1, 256, 65_535]),
-        signal: [random.octet(), random.octet(), random.octet(), random.octet()],
-    }
 }

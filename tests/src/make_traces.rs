@@ -1,16 +1,18 @@
 //! Made-up traces.
 
+use crate::make_events::{log_record, rsna_logging, transition};
 use crate::make_identity::{console_list, identity, STATION};
-use crate::make_reports::{report_frame, time, transition};
-use crate::make_requests::{condition_body, crowded_request, request_frame, Taste};
+use crate::make_reports::report_frame;
+use crate::make_requests::{crowded_request, handed_condition, request_frame, Taste};
 use crate::octets::{Address, Kind};
 use crate::random::Random;
 use crate::request::Wanted;
+use crate::rsna::RsnaLogging;
 use crate::setup::{identity_is_good, list_is_good};
 use crate::station::Logging;
-use crate::trace::{write_record, Record, LONGEST_TRACE};
+use crate::trace::{handed_lengths, write_record, Record, LONGEST_TRACE};
 
-/// Lengths of lent buffers at which something changes: the least buffer, one to several events of 35
+/// Lengths of lent buffers at which something changes: the least buffer, one to several transitions of 35
 /// octets, reports of 5, the longest identity twice, the longest frame.
 const BUFFERS: [usize; 32] = [
     0, 1, 2, 3, 258, 259, 260, 260, 260, 261, 262, 264, 265, 266, 267, 268, 283, 293, 294, 295, 296, 300,
@@ -26,6 +28,8 @@ struct Plan {
     weights: Weights,
     taste: Taste,
     loggings_first: usize,
+    /// How often each kind is logged: transitions, RSNA events, peer links.
+    kinds: [usize; 3],
     steps: [usize; 7],
     short_buffers: bool,
     /// Percent of event frames that fill a report frame.
@@ -40,6 +44,7 @@ fn plan(random: &mut Random) -> Plan {
         weights: [4, 22, 16, 10, 32, 2, 1, 1, 3, 4, 2],
         taste,
         loggings_first: random.between(0, 20),
+        kinds: random.pick(&[[1, 1, 1], [1, 1, 1], [6, 1, 1], [1, 6, 1], [1, 1, 6], [1, 0, 0]]),
         steps: small_steps,
         short_buffers: random.percent(50),
         crowded: 5,
@@ -105,7 +110,7 @@ pub fn trace(random: &mut Random) -> Vec<Vec<u8>> {
     while maker.records.len() < calls && maker.size < LONGEST_TRACE - 8000 {
         maker.call();
     }
-    if maker.random.percent(10) {
+    if maker.random.percent(20) {
         maker.bad_record();
     }
     maker.records
@@ -205,12 +210,9 @@ impl Maker<'_> {
             0 => random.bits() as u32,
             _ => random.pick(&[0, 1, 2, 15, 16, 17, 1000, 67_106, 67_107, 67_108, 67_109]),
         };
-        let logging = Logging {
-            time: time(random, 5),
-            transition: transition(random),
-            departure: reading.wrapping_sub(taken),
-        };
-        self.push(Record::Log { reading, logging });
+        let ty = random.weighted(&self.plan.kinds) as u8;
+        let record = log_record(random, ty, reading, taken, 5);
+        self.push(record);
     }
 
     /// Mostly a listed requester.
@@ -264,10 +266,13 @@ impl Maker<'_> {
         let reading = accepted.wrapping_add(u32::from(timeout) * 1000 + random.pick(&[0, 1, 1, 1]));
         let list = console_list(random);
         let refused_time = Logging { time: [0; 9], transition: transition(random), departure: 0 };
+        let refused_element = RsnaLogging { rsn: vec![0; 21], ..rsna_logging(random, 0) };
+        let ty = random.pick(&[0, 1, 2]);
+        let logged = log_record(random, ty, reading, 0, 0);
         let unlisted = [2, 0, 0, 0, 0, 6];
         let call =
             |destination, source| Record::Frame { reading, destination, source, octets: vec![10, 0, 7] };
-        let between = match random.between(0, 8) {
+        let between = match random.between(0, 10) {
             0 => Record::Clock { reading },
             1 => Record::Log { reading, logging: refused_time },
             2 => call([1; 6], source),
@@ -276,6 +281,8 @@ impl Maker<'_> {
             5 => Record::Report { reading, console: unlisted, kind, buffer, fill: 0 },
             6 => Record::Report { reading, console: source, kind: Kind::Event, buffer, fill: 0 },
             7 => Record::Roam { reading, list: Vec::new() },
+            8 => Record::LogRsna { reading, logging: refused_element },
+            9 => logged,
             _ => Record::Change { reading, list: [list.clone(), list].concat() },
         };
         let back = u32::from(random.percent(70));
@@ -296,12 +303,14 @@ impl Maker<'_> {
             let wrong = if token - first >= 8 { 30 } else { 3 };
             let bound = random.pick(&[0u16, 1, 255]);
             let every = random.percent(50);
-            let ids: Vec<u8> = (0..5).filter(|_| every || random.percent(30)).collect();
+            let ty = random.pick(&[0, 0, 1, 1, 1, 2, 2, 3, 255]);
+            let conditions = handed_lengths(kind, ty).len() as u8;
+            let ids: Vec<u8> = (0..conditions).filter(|_| every || random.percent(30)).collect();
             wanted.push(Wanted {
                 token: if random.percent(wrong) { random.pick(&[0, first]) } else { token },
-                ty: random.pick(&[0, 0, 0, 0, 1, 255]),
+                ty,
                 bound: if kind == Kind::Event { bound } else { bound * 257 },
-                conditions: ids.iter().map(|id| (*id, condition_body(random, *id))).collect(),
+                conditions: ids.iter().map(|id| (*id, handed_condition(random, kind, ty, *id))).collect(),
             });
         }
         let buffer = random.pick(&[0, 265, 266, 267, 267, 268, 300, 4096]);
@@ -317,12 +326,15 @@ impl Maker<'_> {
             let length = buffer.to_le_bytes();
             [&[4][..], &reading, &[2, 0, 0, 0, 0, 1], &[kind], &length, &[0]].concat()
         };
-        let write = |action: u8, bound: u16, conditions: &[u8]| {
+        let write_type = |action: u8, ty: u8, bound: u16, conditions: &[u8]| {
             let bound = bound.to_le_bytes();
-            [&[0x10, 11, 1, 0, action, 7, 1, 5, 0][..], &bound, conditions].concat()
+            [&[0x10, 11, 1, 0, action, 7, 1, 5, ty][..], &bound, conditions].concat()
         };
-        let octets = match random.between(0, 13) {
-            0 => vec![random.pick(&[7, 8, 9, 15, 16 + 2, 32, 255])],
+        let write = |action: u8, bound: u16, conditions: &[u8]| write_type(action, 0, bound, conditions);
+        let ty = random.pick(&[1, 2]);
+        let logging = write_record(&log_record(random, ty, self.reading, 0, 5));
+        let octets = match random.between(0, 20) {
+            0 => vec![random.pick(&[9, 15, 16 + 2, 32, 255])],
             1 => report(2, 300),
             2 => report(0, 4097),
             3 => [&[0x11][..], &[2, 0, 0, 0, 0, 9], &4097u16.to_le_bytes(), &[0; 4097]].concat(),
@@ -335,6 +347,15 @@ impl Maker<'_> {
             10 => write(0, 0, &[1, 5, 0]),
             11 => [&[0x00][..], &4097u16.to_le_bytes(), &[0; 4100]].concat(),
             12 => [&[0x10][..], &4097u16.to_le_bytes(), &[0, 0, 7, 0]].concat(),
+            // An EAP method of its own length and not of eight; a source BSSID, which only transitions have.
+            13 => write_type(0, 1, 0, &random.pick(&[vec![1, 2, 1, 13], vec![1, 1, 6, 2, 1, 1, 1, 1, 1]])),
+            14 => write_type(0, 1, 0, &random.pick(&[vec![1, 4, 3, 0, 0, 0], vec![2, 3, 1, 0, 3, 1, 0]])),
+            15 => write_type(0, 2, 0, &random.pick(&[vec![1, 2, 2, 0, 0], vec![1, 1, 6, 2, 1, 1, 1, 1, 1]])),
+            // Every other element keeps the lengths of a transition's.
+            16 => write_type(random.pick(&[0, 2]), 3, 0, &[1, 1, 2, 81, 6]),
+            17 => write_type(2, random.pick(&[1, 2]), 0, &[1, 1, 4, 0, 0, 0, 0]),
+            18 => logging[..random.between(1, logging.len() - 1)].to_vec(),
+            19 => [&[7][..], &reading, &[255; 9], &[2; 19], &4097u16.to_le_bytes(), &[0; 4097]].concat(),
             _ => {
                 let mut cut = random.pick(&self.records);
                 cut.truncate(random.between(1, cut.len() - 1));

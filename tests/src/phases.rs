@@ -3,15 +3,16 @@
 use crate::cases::{cases, limits, Input};
 use crate::compare::{compare_frame, compare_report, compare_trace, Difference};
 use crate::independence::check_independence;
+use crate::kind_cases::{kind_cases, kind_limits};
+use crate::make_events::log_record;
 use crate::make_identity::{identity, STATION};
-use crate::make_reports::{report_frame, time, transition};
+use crate::make_reports::report_frame;
 use crate::make_requests::{request_frame, Taste};
 use crate::make_traces::trace;
 use crate::octets::Kind;
 use crate::program::Programs;
 use crate::random::Random;
 use crate::read_back::check_read_back;
-use crate::station::Logging;
 use crate::tally::Tally;
 use crate::trace::{write_record, Record};
 use std::sync::atomic::{AtomicBool, AtomicUsize, Ordering};
@@ -72,9 +73,9 @@ impl Run {
         Ok(())
     }
 
-    /// The paper's cases and the trace's limits.
+    /// The fixed cases.
     pub fn fixed(&self) -> Result<(), Difference> {
-        let inputs: Vec<Input> = cases().into_iter().map(|case| case.input).chain(limits()).collect();
+        let inputs = fixed_inputs();
         each(inputs.len(), |index| match &inputs[index] {
             Input::Frame(octets) => compare_frame(&self.programs, &self.tally, octets),
             Input::Report(octets) => compare_report(&self.programs, &self.tally, octets),
@@ -85,38 +86,24 @@ impl Run {
     /// Request frames, each to a fresh station, followed by report calls that show what was taken.
     pub fn frames(&self, number: usize) -> Result<(), Difference> {
         each(number.div_ceil(FRAMES_IN_TRACE), |index| {
-            let mut random = Random::new(self.seed, 1, index as u64);
             let in_this_trace = FRAMES_IN_TRACE.min(number - index * FRAMES_IN_TRACE);
-            let mut records = Vec::new();
-            for place in 0..in_this_trace {
-                let kind = random.pick(&[Kind::Event, Kind::Event, Kind::Diagnostic]);
-                let taste = Taste { faulty: 50, cancels: 5 };
-                let dialog = random.pick(&[1, 7, 255]);
-                let octets = request_frame(&mut random, kind, dialog, taste);
-                if place % BY_ITSELF == 0 {
-                    compare_frame(&self.programs, &self.tally, &octets)?;
-                }
-                records.extend(fresh_station(&mut random, octets, kind).iter().map(write_record));
+            let made = request_frames(&mut Random::new(self.seed, 1, index as u64), in_this_trace);
+            for octets in made.alone.iter().step_by(BY_ITSELF) {
+                compare_frame(&self.programs, &self.tally, octets)?;
             }
-            self.calls(&records).map(|_| ())
+            self.calls(&made.records).map(|_| ())
         })
     }
 
     /// Report frames, many to a trace.
     pub fn reports(&self, number: usize) -> Result<(), Difference> {
         each(number.div_ceil(REPORTS_IN_TRACE), |index| {
-            let mut random = Random::new(self.seed, 2, index as u64);
             let in_this_trace = REPORTS_IN_TRACE.min(number - index * REPORTS_IN_TRACE);
-            let mut records = Vec::new();
-            for place in 0..in_this_trace {
-                let (destination, octets) = report_frame(&mut random);
-                if place % BY_ITSELF == 0 {
-                    let input = [&destination[..], &octets].concat();
-                    compare_report(&self.programs, &self.tally, &input)?;
-                }
-                records.push(write_record(&Record::Read { destination, octets }));
+            let made = report_frames(&mut Random::new(self.seed, 2, index as u64), in_this_trace);
+            for input in made.alone.iter().step_by(BY_ITSELF) {
+                compare_report(&self.programs, &self.tally, input)?;
             }
-            compare_trace(&self.programs, &self.tally, &records).map(|_| ())
+            compare_trace(&self.programs, &self.tally, &made.records).map(|_| ())
         })
     }
 
@@ -129,14 +116,54 @@ impl Run {
     }
 }
 
-/// A newly set up station with one event, a frame from its requester, and one report call.
-fn fresh_station(random: &mut Random, octets: Vec<u8>, kind: Kind) -> [Record; 4] {
+/// The papers' cases and the limits of traces and frames.
+pub fn fixed_inputs() -> Vec<Input> {
+    let cases = cases().into_iter().chain(kind_cases()).map(|case| case.input);
+    cases.chain(limits()).chain(kind_limits()).collect()
+}
+
+/// Made-up frames: each as the input of `frame` or `report` alone, and all in the records of one trace.
+#[derive(Default)]
+pub struct Made {
+    pub alone: Vec<Vec<u8>>,
+    pub records: Vec<Vec<u8>>,
+}
+
+/// So many request frames, each to a fresh station.
+pub fn request_frames(random: &mut Random, number: usize) -> Made {
+    let mut made = Made::default();
+    for _ in 0..number {
+        let kind = random.pick(&[Kind::Event, Kind::Event, Kind::Diagnostic]);
+        let taste = Taste { faulty: 50, cancels: 5 };
+        let dialog = random.pick(&[1, 7, 255]);
+        let octets = request_frame(random, kind, dialog, taste);
+        made.alone.push(octets.clone());
+        made.records.extend(fresh_station(random, octets, kind).iter().map(write_record));
+    }
+    made
+}
+
+/// So many report frames.
+pub fn report_frames(random: &mut Random, number: usize) -> Made {
+    let mut made = Made::default();
+    for _ in 0..number {
+        let (destination, octets) = report_frame(random);
+        made.alone.push([&destination[..], &octets].concat());
+        made.records.push(write_record(&Record::Read { destination, octets }));
+    }
+    made
+}
+
+/// A newly set up station with one event of each kind, a frame from its requester, and one report call.
+fn fresh_station(random: &mut Random, octets: Vec<u8>, kind: Kind) -> [Record; 6] {
     let console = [2, 0, 0, 0, 0, 1];
-    let logging = Logging { time: time(random, 0), transition: transition(random), departure: 0 };
     let buffer = random.pick(&[260, 300, 330]);
+    let taken = random.pick(&[1, 2, 16, 17]);
     [
         Record::Setup { identity: identity(random, 0), list: vec![console] },
-        Record::Log { reading: random.pick(&[1, 2, 16, 17]), logging },
+        log_record(random, 0, taken, taken, 0),
+        log_record(random, 1, 18, 0, 0),
+        log_record(random, 2, 19, 0, 0),
         Record::Frame { reading: 20, destination: STATION, source: console, octets },
         Record::Report { reading: 20, console, kind, buffer, fill: 0xEE },
     ]

@@ -1,15 +1,16 @@
 //! Report frames: their fields, and the reader.
 
+use crate::event_body::{is_reported, EventBody};
 use crate::octets::{is_group, part_at, Address, Kind, Part, CATEGORY, HEADER, LONGEST_FRAME};
 use crate::refusal::{refusal, Refusal};
 use crate::request::count_subelements;
-use crate::transition::{time_is_good, Time, Transition};
+use crate::transition::{time_is_good, Time};
 
 /// What follows token, type and status.
 #[derive(Clone, Debug, PartialEq, Eq)]
 pub enum Rest {
     Nothing,
-    Event(Time, Transition),
+    Event(Time, EventBody),
     Unread(usize),
     Subelements(usize),
 }
@@ -66,7 +67,8 @@ fn read_elements(
 }
 
 /// "each element 4, 5, 17, then 14 or 7": from 5 on. "Report status over 4; event body not 3 with
-/// status 1 to 4; event type 0 Successful not 3 or 33".
+/// status 1 to 4; event type 0 Successful not 3 or 33"; of types 1 and 2 "a wrong report body with 17, in the
+/// places these already have". The rest of types 3 and up "is kept unread".
 fn read_element(kind: Kind, frame: &[u8], element: &Part) -> Result<ReportElement, Refusal> {
     let body = element.body;
     if body.len() < 3 {
@@ -78,20 +80,21 @@ fn read_element(kind: Kind, frame: &[u8], element: &Part) -> Result<ReportElemen
         (Kind::Diagnostic, ..) => {
             Rest::Subelements(count_subelements(&frame[..element.next], element.start + 5)?)
         }
-        (Kind::Event, _, 1..=4, 3) | (Kind::Event, 0, 0, 3) => Rest::Nothing,
-        (Kind::Event, 0, 0, 33) => read_event(element)?,
-        (Kind::Event, 1.., 0, length) => Rest::Unread(length - 3),
+        (Kind::Event, _, 0, length) if !is_reported(ty) => Rest::Unread(length - 3),
+        (Kind::Event, _, _, 3) => Rest::Nothing,
+        (Kind::Event, _, 0, _) => read_event(ty, element)?,
         (Kind::Event, ..) => return Err(refusal(17, element.start)),
     };
     Ok(ReportElement { token, ty, status, rest })
 }
 
-/// "9 octets of time and 21 of transition"; 14 at the element start "when reading".
-fn read_event(element: &Part) -> Result<Rest, Refusal> {
-    let mut time = [0; 9];
-    time.copy_from_slice(&element.body[3..12]);
-    if !time_is_good(&time) {
+/// "9 octets of time", and the event's own; 17 for their number, then 14 at the element start "when reading".
+fn read_event(ty: u8, element: &Part) -> Result<Rest, Refusal> {
+    let wrong = refusal(17, element.start);
+    let (time, own) = element.body[3..].split_first_chunk().ok_or(wrong)?;
+    let body = EventBody::of(ty, own).ok_or(wrong)?;
+    if !time_is_good(time) {
         return Err(refusal(14, element.start));
     }
-    Ok(Rest::Event(time, Transition::of(&element.body[12..])))
+    Ok(Rest::Event(*time, body))
 }

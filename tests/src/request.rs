@@ -1,33 +1,21 @@
 //! Request frames, read and written.
 
-use crate::octets::{address_of, part_at, u16_of, Address, Kind, Part, CATEGORY, HEADER, LONGEST_FRAME};
+use crate::condition::{own_subelements, Condition};
+use crate::event_body::is_reported;
+use crate::octets::{part_at, u16_of, Kind, Part, CATEGORY, HEADER, LONGEST_FRAME};
 use crate::refusal::{refusal, Refusal};
-
-/// "frequent transition 3 (count threshold 1, interval in minutes 2)".
-#[derive(Clone, Debug, PartialEq, Eq)]
-pub struct Frequent {
-    pub threshold: u8,
-    pub interval: u16,
-}
-
-/// "Transition subelements": each may stand once or not at all.
-#[derive(Clone, Debug, Default, PartialEq, Eq)]
-pub struct Conditions {
-    pub target: Option<Address>,
-    pub source: Option<Address>,
-    pub threshold: Option<u16>,
-    pub match_value: Option<u8>,
-    pub frequent: Option<Frequent>,
-}
+use crate::rsna::EapMethod;
+use std::mem::discriminant;
 
 /// "Event Request body: token, type, response limit, subelements. Diagnostic Request body: token,
-/// type, timeout in seconds (2 octets), subelements." `bound` is the limit or the timeout.
+/// type, timeout in seconds (2 octets), subelements." `bound` is the limit or the timeout;
+/// the conditions are those of an event type that is read, in the order of their subelements.
 #[derive(Clone, Debug, PartialEq, Eq)]
 pub struct RequestElement {
     pub token: u8,
     pub ty: u8,
     pub bound: u16,
-    pub conditions: Conditions,
+    pub conditions: Vec<Condition>,
     pub subelements: usize,
 }
 
@@ -103,11 +91,11 @@ fn read_element(
     };
     let inside = &frame[..element.next];
     let first = element.start + 2 + kind.shortest_request();
-    let mut conditions = Conditions::default();
-    let subelements = match (kind, ty) {
-        (Kind::Event, 0) => read_conditions(inside, first, &mut conditions)?,
-        (Kind::Event, _) => 0,
-        (Kind::Diagnostic, _) => count_subelements(inside, first)?,
+    let mut conditions = Vec::new();
+    let subelements = match kind {
+        Kind::Event if is_reported(ty) => read_conditions(ty, inside, first, &mut conditions)?,
+        Kind::Event => 0,
+        Kind::Diagnostic => count_subelements(inside, first)?,
     };
     Ok(RequestElement { token, ty, bound, conditions, subelements })
 }
@@ -117,49 +105,21 @@ fn token_is_wrong(kind: Kind, token: u8, mut before: impl Iterator<Item = u8>) -
     (kind == Kind::Event && token == 0) || before.any(|earlier| earlier == token)
 }
 
-/// "its subelements from the front (in each 7 before 8)"; the answer is the number walked. "IDs 5 to
-/// 255 are passed over."
-fn read_conditions(inside: &[u8], at: usize, conditions: &mut Conditions) -> Result<usize, Refusal> {
+/// "its subelements from the front (in each 7 before 8)"; the answer is the number walked. IDs that are
+/// not the type's own "are passed over", may repeat and are counted.
+fn read_conditions(ty: u8, inside: &[u8], at: usize, before: &mut Vec<Condition>) -> Result<usize, Refusal> {
     if at == inside.len() {
         return Ok(0);
     }
     let subelement = part_at(inside, at).ok_or(refusal(7, at))?;
-    if let Some(length) = condition_length(subelement.id) {
-        if subelement.body.len() != length {
-            return Err(refusal(7, at));
-        }
-        if !put_condition(conditions, &subelement) {
+    if subelement.id < own_subelements(ty) {
+        let condition = Condition::read(ty, subelement.id, subelement.body).ok_or(refusal(7, at))?;
+        if before.iter().any(|earlier| discriminant(earlier) == discriminant(&condition)) {
             return Err(refusal(8, at));
         }
+        before.push(condition);
     }
-    Ok(1 + read_conditions(inside, subelement.next, conditions)?)
-}
-
-/// "0 target BSSID 6, 1 source BSSID 6, 2 transition time threshold 2, 3 match value 1, 4 frequent
-/// transition 3".
-pub fn condition_length(id: u8) -> Option<usize> {
-    match id {
-        0 | 1 => Some(6),
-        2 => Some(2),
-        3 => Some(1),
-        4 => Some(3),
-        _ => None,
-    }
-}
-
-/// Puts one subelement's values in their place; false for "Transition subelement 0 to 4 repeated".
-fn put_condition(conditions: &mut Conditions, subelement: &Part) -> bool {
-    let body = subelement.body;
-    match subelement.id {
-        0 => conditions.target.replace(address_of(body)).is_none(),
-        1 => conditions.source.replace(address_of(body)).is_none(),
-        2 => conditions.threshold.replace(u16_of(body)).is_none(),
-        3 => conditions.match_value.replace(body[0]).is_none(),
-        _ => {
-            let frequent = Frequent { threshold: body[0], interval: u16_of(&body[1..]) };
-            conditions.frequent.replace(frequent).is_none()
-        }
-    }
+    Ok(1 + read_conditions(ty, inside, subelement.next, before)?)
 }
 
 /// "In diagnostics the subelements are walked for their edges only": how many there are.
@@ -172,7 +132,7 @@ pub fn count_subelements(inside: &[u8], at: usize) -> Result<usize, Refusal> {
 }
 
 /// What a requester hands to the request writer for one element: the conditions are subelement IDs in
-/// rising order, with their bodies.
+/// rising order, with their bodies; an EAP method always as eight octets.
 #[derive(Clone, Debug, PartialEq, Eq)]
 pub struct Wanted {
     pub token: u8,
@@ -212,19 +172,28 @@ pub fn write_request(buffer: &mut [u8], kind: Kind, dialog: u8, wanted: &[Wanted
 }
 
 /// "Writers put subelements in rising ID order; diagnostic requests and event types other than 0 are
-/// written, and read back, with none."
+/// written, and read back, with none"; of RSNA and peer link events "the request writer writes these too".
 fn request_body(kind: Kind, element: &Wanted) -> Vec<u8> {
     let mut body = vec![element.token, element.ty];
     match kind {
         Kind::Event => body.push(element.bound as u8),
         Kind::Diagnostic => body.extend(element.bound.to_le_bytes()),
     }
-    if kind == Kind::Event && element.ty == 0 {
-        for (id, value) in &element.conditions {
+    if kind == Kind::Event && is_reported(element.ty) {
+        for (id, handed_in) in &element.conditions {
+            let value = written_condition(element.ty, *id, handed_in);
             body.push(*id);
             body.push(value.len() as u8);
             body.extend(value);
         }
     }
     body
+}
+
+/// A condition's octets as they go on the air: all that were handed in, but an EAP method by its own length.
+fn written_condition(ty: u8, id: u8, handed_in: &[u8]) -> Vec<u8> {
+    match ((ty, id), handed_in.first_chunk()) {
+        ((1, 2), Some(eight)) => EapMethod::handed_in(eight).octets().to_vec(),
+        _ => handed_in.to_vec(),
+    }
 }

@@ -1,7 +1,10 @@
 //! What a run has seen: a check that saw nothing could not have failed.
 
+use crate::covered::Covered;
+use crate::event_body::EventBody;
 use crate::report::{ReportFrame, Rest};
 use std::sync::atomic::{AtomicUsize, Ordering};
+use std::sync::Mutex;
 
 /// A count that several threads add to.
 #[derive(Default)]
@@ -20,7 +23,7 @@ impl Count {
 }
 
 /// Lines that programs printed, and how often each refusal number was among them; answers compared for
-/// demand 3; frames read back, and what was in them.
+/// demand 3; frames read back, and what was in them; the cases of document 02.
 #[derive(Default)]
 pub struct Tally {
     lines: Count,
@@ -29,7 +32,10 @@ pub struct Tally {
     frames: Count,
     elements: Count,
     transitions: Count,
+    rsna_events: Count,
+    peer_links: Count,
     identities: Count,
+    covered: Mutex<Covered>,
 }
 
 impl Tally {
@@ -56,11 +62,18 @@ impl Tally {
         for element in chosen.iter().flat_map(|frame| &frame.elements) {
             self.elements.add(1);
             match element.rest {
-                Rest::Event(..) => self.transitions.add(1),
+                Rest::Event(_, EventBody::Transition(_)) => self.transitions.add(1),
+                Rest::Event(_, EventBody::Rsna(_)) => self.rsna_events.add(1),
+                Rest::Event(_, EventBody::PeerLink(_)) => self.peer_links.add(1),
                 Rest::Subelements(1..) => self.identities.add(1),
                 _ => {}
             }
         }
+    }
+
+    /// Counts the cases that a trace had, once its answers were as expected.
+    pub fn count_covered(&self, covered: &Covered) {
+        self.covered.lock().expect("no thread panicked").add(covered);
     }
 
     /// Prints the counts; false where one of them is 0.
@@ -71,6 +84,8 @@ impl Tally {
             ("frames read back", &self.frames),
             ("elements in them", &self.elements),
             ("transitions among these", &self.transitions),
+            ("RSNA events among these", &self.rsna_events),
+            ("peer links among these", &self.peer_links),
             ("identities among these", &self.identities),
         ];
         for (name, count) in &named {
@@ -79,7 +94,12 @@ impl Tally {
         for (number, count) in self.refusals.iter().enumerate().skip(1) {
             println!("refusal {number:2}: {}", count.number());
         }
+        let cases = self.covered.lock().expect("no thread panicked").counts();
+        for ((name, what), number) in &cases {
+            println!("{name}, {what}: {number}");
+        }
         named.iter().all(|(_, count)| count.number() > 0)
             && self.refusals[1..].iter().all(|count| count.number() > 0)
+            && cases.iter().all(|(_, number)| *number > 0)
     }
 }

@@ -1,12 +1,15 @@
 //! The program `replay`: its records, read and written, and what it prints.
 
+use crate::covered::Covered;
 use crate::listing::list_report;
 use crate::octets::{address_of, u16_of, Address, Kind};
+use crate::peer_link::{PeerLink, PeerLogging};
 use crate::refusal::Refusal;
 use crate::report::ReportFrame;
-use crate::request::{condition_length, write_request, Wanted};
+use crate::request::{write_request, Wanted};
+use crate::rsna::RsnaLogging;
 use crate::station::{Answer, Logging, Station};
-use crate::transition::Transition;
+use crate::transition::{Time, Transition};
 
 /// "at most 262,144 octets in all".
 pub const LONGEST_TRACE: usize = 262_144;
@@ -19,6 +22,8 @@ pub enum Record {
     Setup { identity: Vec<u8>, list: Vec<Address> },
     Clock { reading: u32 },
     Log { reading: u32, logging: Logging },
+    LogRsna { reading: u32, logging: RsnaLogging },
+    LogPeerLink { reading: u32, logging: PeerLogging },
     Frame { reading: u32, destination: Address, source: Address, octets: Vec<u8> },
     Report { reading: u32, console: Address, kind: Kind, buffer: usize, fill: u8 },
     Roam { reading: u32, list: Vec<Address> },
@@ -90,11 +95,15 @@ impl<'a> Fields<'a> {
         }
     }
 
+    /// A time, nine octets.
+    fn time(&mut self) -> Option<Time> {
+        self.octets(9)?.try_into().ok()
+    }
+
     /// "time (9), source (6), target (6), reason (1), result (2), source RCPI, source RSNI, target RCPI,
     /// target RSNI (1 each), departure (4)".
     fn logging(&mut self) -> Option<Logging> {
-        let mut time = [0; 9];
-        time.copy_from_slice(self.octets(9)?);
+        let time = self.time()?;
         let transition = Transition {
             source: self.address()?,
             target: self.address()?,
@@ -106,6 +115,34 @@ impl<'a> Fields<'a> {
         Some(Logging { time, transition, departure: self.reading()? })
     }
 
+    /// "time (9), target (6), authentication type (4), EAP method (8), result (1), RSN element's length (2),
+    /// RSN element".
+    fn rsna_logging(&mut self) -> Option<RsnaLogging> {
+        Some(RsnaLogging {
+            time: self.time()?,
+            target: self.address()?,
+            authentication: self.octets(4)?.try_into().ok()?,
+            eap: self.octets(8)?.try_into().ok()?,
+            result: self.octet()?,
+            rsn: self.counted()?,
+        })
+    }
+
+    /// "time (9), peer address (6), regulatory class (1), channel (1), transmit power (1), connection time (3),
+    /// peer status (1)".
+    fn peer_logging(&mut self) -> Option<PeerLogging> {
+        let time = self.time()?;
+        let link = PeerLink {
+            peer: self.address()?,
+            class: self.octet()?,
+            channel: self.octet()?,
+            power: self.octet()?,
+            connection: u32::from(self.two()?) + 65_536 * u32::from(self.octet()?),
+            status: self.octet()?,
+        };
+        Some(PeerLogging { time, link })
+    }
+
     /// "token (1), type (1), limit or timeout (2; a limit is below 256), number of conditions (1)".
     fn wanted(&mut self, kind: Kind) -> Option<Wanted> {
         let (token, ty, bound) = (self.octet()?, self.octet()?, self.two()?);
@@ -115,7 +152,7 @@ impl<'a> Fields<'a> {
         let number = self.octet()?;
         let mut conditions: Vec<(u8, Vec<u8>)> = Vec::new();
         for _ in 0..number {
-            let condition = self.condition()?;
+            let condition = self.condition(kind, ty)?;
             if conditions.last().is_some_and(|before| before.0 >= condition.0) {
                 return None;
             }
@@ -124,11 +161,12 @@ impl<'a> Fields<'a> {
         Some(Wanted { token, ty, bound, conditions })
     }
 
-    /// "each with ID (1, 0 to 4, rising), length (1, as document 01 has it), octets".
-    fn condition(&mut self) -> Option<(u8, Vec<u8>)> {
+    /// "each with ID (1, 0 to 4, rising), length (1, as document 01 has it), octets", or as the element's type
+    /// has it.
+    fn condition(&mut self, kind: Kind, ty: u8) -> Option<(u8, Vec<u8>)> {
         let id = self.octet()?;
         let length = usize::from(self.octet()?);
-        if condition_length(id) != Some(length) {
+        if handed_lengths(kind, ty).get(usize::from(id)) != Some(&length) {
             return None;
         }
         Some((id, self.octets(length)?.to_vec()))
@@ -155,6 +193,8 @@ impl<'a> Fields<'a> {
             },
             0x05 => Record::Roam { reading: self.reading()?, list: self.addresses()? },
             0x06 => Record::Change { reading: self.reading()?, list: self.addresses()? },
+            0x07 => Record::LogRsna { reading: self.reading()?, logging: self.rsna_logging()? },
+            0x08 => Record::LogPeerLink { reading: self.reading()?, logging: self.peer_logging()? },
             0x10 => {
                 let (buffer, fill) = (self.length()?, self.octet()?);
                 let (kind, dialog, number) = (self.kind(0, 2)?, self.octet()?, self.octet()?);
@@ -164,6 +204,17 @@ impl<'a> Fields<'a> {
             0x11 => Record::Read { destination: self.address()?, octets: self.counted()? },
             _ => return None,
         })
+    }
+}
+
+/// How long the conditions 0, 1, .. of a request writer's element are: "an event element of type 1 has
+/// conditions 0 to 3 of lengths 6, 4, 8, 1 ..., one of type 2 conditions 0 and 1 of lengths 6 and 2; every
+/// other element keeps document 01's."
+pub fn handed_lengths(kind: Kind, ty: u8) -> &'static [usize] {
+    match (kind, ty) {
+        (Kind::Event, 1) => &[6, 4, 8, 1],
+        (Kind::Event, 2) => &[6, 2],
+        _ => &[6, 6, 2, 1, 3],
     }
 }
 
@@ -205,6 +256,28 @@ pub fn write_record(record: &Record) -> Vec<u8> {
             octets.extend(logging.transition.result.to_le_bytes());
             octets.extend(logging.transition.signal);
             octets.extend(logging.departure.to_le_bytes());
+            octets
+        }
+        Record::LogRsna { reading, logging } => {
+            let mut octets = vec![0x07];
+            octets.extend(reading.to_le_bytes());
+            octets.extend(logging.time);
+            octets.extend(logging.target);
+            octets.extend(logging.authentication);
+            octets.extend(logging.eap);
+            octets.push(logging.result);
+            octets.extend(counted_octets(&logging.rsn));
+            octets
+        }
+        Record::LogPeerLink { reading, logging } => {
+            let link = &logging.link;
+            let mut octets = vec![0x08];
+            octets.extend(reading.to_le_bytes());
+            octets.extend(logging.time);
+            octets.extend(link.peer);
+            octets.extend([link.class, link.channel, link.power]);
+            octets.extend(&link.connection.to_le_bytes()[..3]);
+            octets.push(link.status);
             octets
         }
         Record::Frame { reading, destination, source, octets } => {
@@ -272,15 +345,17 @@ pub fn hexadecimal(octets: &[u8]) -> String {
     octets.iter().flat_map(|octet| [digit(octet / 16), digit(octet % 16)]).collect()
 }
 
-/// What a trace gives: the text that `replay` prints, and what the gate chose for each frame that it gave.
+/// What a trace gives: the text that `replay` prints, what the gate chose for each frame that it gave, and the
+/// cases that it had.
 #[derive(Default)]
 pub struct Replayed {
     pub printed: String,
     pub chosen: Vec<ReportFrame>,
+    pub covered: Covered,
 }
 
-/// Runs one record; gives what is printed for it, and adds what was chosen.
-fn run_record(station: &mut Station, record: &Record, chosen: &mut Vec<ReportFrame>) -> String {
+/// Runs one record; gives what is printed for it, and what was chosen for a frame.
+fn run_record(station: &mut Station, record: &Record, chosen: &mut Option<ReportFrame>) -> String {
     match record {
         Record::Setup { identity, list } => {
             let (answer, fresh) = Station::setup(identity, list);
@@ -288,14 +363,16 @@ fn run_record(station: &mut Station, record: &Record, chosen: &mut Vec<ReportFra
             line(answer)
         }
         Record::Clock { reading } => line(station.clock(*reading)),
-        Record::Log { reading, logging } => line(station.log(*reading, logging)),
+        Record::Log { reading, logging } => line(station.log_transition(*reading, logging)),
+        Record::LogRsna { reading, logging } => line(station.log_rsna(*reading, logging)),
+        Record::LogPeerLink { reading, logging } => line(station.log_peer_link(*reading, logging)),
         Record::Frame { reading, destination, source, octets } => {
             line(station.frame(*reading, destination, source, octets))
         }
         Record::Report { reading, console, kind, buffer, fill } => {
             let mut lent = vec![*fill; *buffer];
             let answer = station.report(*reading, console, *kind, &mut lent).map(|(answer, frame)| {
-                chosen.extend(frame);
+                *chosen = frame;
                 answer
             });
             line(answer) + &buffer_line(&lent)
@@ -322,10 +399,17 @@ pub fn run_trace(input: &[u8]) -> Replayed {
     let mut at = 0;
     while at < within.len() {
         let Some((record, length)) = read_record(&within[at..]) else {
+            replayed.covered.refused_record(&within[at..]);
             replayed.printed += &format!("trace refused at {at}\n");
             return replayed;
         };
-        replayed.printed += &run_record(&mut station, &record, &mut replayed.chosen);
+        replayed.covered.before(&station, &record);
+        let oldest = station.log().first().filter(|_| station.log().len() == 64).map(|event| event.body.ty());
+        let mut chosen = None;
+        let printed = run_record(&mut station, &record, &mut chosen);
+        replayed.covered.after(&record, oldest, &printed, chosen.as_ref());
+        replayed.chosen.extend(chosen);
+        replayed.printed += &printed;
         at += length;
     }
     if input.len() > LONGEST_TRACE {

@@ -1,13 +1,15 @@
-//! Document 01's "Rollover and edge cases" and the program's example, against values worked out by hand.
+//! Document 01's "Rollover and edge cases", the program's example and the cases of document 02, against values
+//! worked out by hand.
 
 use differential::cases::{cases, Input};
 use differential::clock::{age, is_late, time_units};
+use differential::kind_cases::kind_cases;
 use differential::listing::{list_report_input, list_request};
 use differential::trace::replay;
 
 #[test]
-fn every_case_prints_what_the_paper_says() {
-    for case in cases() {
+fn every_case_prints_what_the_papers_say() {
+    for case in cases().into_iter().chain(kind_cases()) {
         let printed = match &case.input {
             Input::Frame(octets) => list_request(octets),
             Input::Report(octets) => list_report_input(octets),

@@ -1,5 +1,6 @@
 //! How document 01 is read: frames, the request writer and the report reader. A test for each agreed line.
 
+use differential::condition::Condition;
 use differential::listing::{list_report, list_request};
 use differential::octets::Kind;
 use differential::refusal::{refusal, Refusal};
@@ -86,7 +87,7 @@ fn a_repeated_condition_is_8_unless_its_length_is_wrong() {
 }
 
 #[test]
-fn diagnostics_are_walked_other_event_types_are_not() {
+fn diagnostics_are_walked_event_types_3_and_up_are_not() {
     // Three subelements 3 of length 0 in a diagnostic: neither a length nor a repetition counts.
     assert_eq!(
         list_request(&[10, 2, 7, 80, 10, 5, 1, 1, 2, 3, 0, 3, 0, 3, 0]),
@@ -94,8 +95,8 @@ fn diagnostics_are_walked_other_event_types_are_not() {
     );
     assert_eq!(refused(&[10, 2, 7, 80, 5, 5, 1, 1, 2, 3]), Some(refusal(7, 9)));
     assert_eq!(
-        list_request(&[10, 0, 7, 78, 5, 5, 1, 4, 3, 9]),
-        "frame 0 dialog 7 elements 1\nelement 78 token 5 type 1 limit 4 subs 0\n"
+        list_request(&[10, 0, 7, 78, 5, 5, 3, 4, 3, 9]),
+        "frame 0 dialog 7 elements 1\nelement 78 token 5 type 3 limit 4 subs 0\n"
     );
 }
 
@@ -135,7 +136,7 @@ fn the_longest_request_has_267_octets() {
     assert_eq!(write_request(&mut buffer, Kind::Event, 7, &eight), Ok(267));
     let read = read_request(&buffer).expect("what is written can be read");
     assert_eq!(read.elements.len(), 8);
-    assert_eq!(read.elements[7].conditions.threshold, Some(0x0303));
+    assert_eq!(read.elements[7].conditions[2], Condition::Threshold(0x0303));
     assert_eq!(write_request(&mut [0; 266], Kind::Event, 0, &eight), Err(refusal(13, 0)));
 }
 

@@ -1,5 +1,6 @@
 //! How document 01 is read: the gate. A test for each agreed line.
 
+use differential::event_body::EventBody;
 use differential::octets::{Address, Kind};
 use differential::refusal::{refusal, Refusal};
 use differential::report::{ReportElement, ReportFrame, Rest};
@@ -27,7 +28,7 @@ fn log(station: &mut Station, reading: u32, reason: u8) {
 fn log_with(station: &mut Station, reading: u32, reason: u8, result: u16) {
     let transition = Transition { source: A, target: B, time: 0, reason, result, signal: [0; 4] };
     let logging = Logging { time: [255; 9], transition, departure: reading };
-    assert_eq!(station.log(reading, &logging), Ok(Answer::Accepted));
+    assert_eq!(station.log_transition(reading, &logging), Ok(Answer::Accepted));
 }
 
 /// A frame from A that must be accepted.
@@ -321,13 +322,13 @@ fn a_report_call_tells_what_it_chose() {
         Transition { source: A, target: B, time: 0, reason: 6, result: 258, signal: [1, 2, 3, 4] };
     let time = [231, 3, 59, 59, 23, 31, 12, 234, 7];
     let logging = Logging { time, transition: transition.clone(), departure: 4_294_967_290 };
-    assert_eq!(station.log(10, &logging), Ok(Answer::Accepted));
+    assert_eq!(station.log_transition(10, &logging), Ok(Answer::Accepted));
     ask(&mut station, 10, &[10, 0, 7, 78, 3, 5, 0, 4, 78, 3, 6, 9, 0, 78, 3, 8, 0, 0]);
     ask(&mut station, 10, &[10, 2, 8, 80, 4, 0, 1, 9, 0, 80, 4, 1, 2, 9, 0]);
     let mut chosen = |kind| station.report(10, &A, kind, &mut [0; 260]).expect("A is listed").1;
     let element = |token, ty, status, rest| ReportElement { token, ty, status, rest };
     // Departure 4,294,967,290, arrival 10: 15 TU. The limit of token 8 is 0.
-    let event = Rest::Event(time, Transition { time: 15, ..transition });
+    let event = Rest::Event(time, EventBody::Transition(Transition { time: 15, ..transition }));
     let elements =
         vec![element(5, 0, 0, event), element(6, 9, 3, Rest::Nothing), element(8, 0, 0, Rest::Nothing)];
     assert_eq!(chosen(Kind::Event), Some(ReportFrame { kind: Kind::Event, dialog: 7, elements }));
@@ -441,7 +442,7 @@ fn the_consoleless_gate() {
         log(&mut station, 0, 1);
         let transition = Transition { source: A, target: B, time: 0, reason: 0, result: 0, signal: [0; 4] };
         let wrong_time = Logging { time: [0; 9], transition, departure: 0 };
-        assert_eq!(station.log(0, &wrong_time), Err(refusal(14, 0)));
+        assert_eq!(station.log_transition(0, &wrong_time), Err(refusal(14, 0)));
         assert_eq!(station.frame(0, &TO, &A, &[10, 0, 7]), Err(refusal(12, 0)));
         assert_eq!(station.report(0, &A, Kind::Event, &mut []), Err(refusal(12, 0)));
         assert_eq!(station.roam(0, &[A, A]), Err(refusal(15, 0)));

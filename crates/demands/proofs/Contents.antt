@@ -2,7 +2,7 @@
 -- Assumes nothing.
 use Prim.Native.Nat.{ℕ, zero, suc, _≤_, _<_}
 use mathlib.Core.Path.{_≡_, refl, sym, ap, _∙_}
-use mathlib.Core.Bool.{Bool, true, false}
+use mathlib.Core.Bool.{Bool, true, false, not}
 use mathlib.Core.List.{List, [], _∷_, map}
 use mathlib.Core.Option.{Option, none, some, Option·some-injective}
 use native.Mathlib.Omega.{arith}
@@ -15,10 +15,12 @@ use Rattle.laws.proofs.Choice.{either, never}
 use Rattle.octets.specs.declared.numbers.Kind.{Kind}
 use Rattle.octets.specs.declared.numbers.Kind.the-variants.{Event, Diagnostic}
 use Rattle.octets.specs.Numbers.{successful, incapable}
+use Rattle.octets.specs.Refusals.{badTime, badReportBody}
 use Rattle.octets.specs.Elements.{Subelement, subelements}
+use Rattle.octets.specs.Times.{goodTime}
 use Rattle.requests.specs.declared.Element.{Element}
 use Rattle.events.specs.declared.Entry.{Entry}
-use Rattle.events.specs.Loggings.{Logging, entryFor}
+use Rattle.events.specs.Loggings.{LoggedEvent, eventTime, goodRsnElement, Logging, entryFor}
 use Rattle.identities.specs.Identity.{goodIdentity}
 use Rattle.reports.specs.Reports.{reportElement, eventElement}
 use Rattle.model.specs.declared.Diagnostic.{Diagnostic as DiagnosticElement}
@@ -30,6 +32,7 @@ use Rattle.events.specs.Log.{pastLog}
 use Rattle.model.specs.Events.{nextEventPlace, reportFront, treatFront, nextFrom, nextEvent, without, eventTreatment}
 use Rattle.model.specs.Diagnostics.{diagnosticTreatment, diagnosticReport, nextDiagnostic}
 use Rattle.report_reader.specs.Contents.{Content, statusOnly, loggedEvent, withSubelements, Valid, contentOctets}
+use Rattle.model.specs.Stations.{logCause}
 use Rattle.model.specs.Sound.{loggingCall, LoggedBy}
 use Rattle.model.proofs.NextEvent.{next-event}
 use Rattle.demands.specs.StationRoundTrip.{WellFormed, Truthful}
@@ -40,7 +43,7 @@ use Rattle.identities.proofs.Subelements.{good-listed}
 abbrev pub Good : List ℕ → List Call → List Entry → (kind : Kind) → Content kind → Type 0
 Good i cs log kind x = Valid kind x × Truthful i cs log kind x
 
--- the entry at a place of a log is that of a transition that was logged
+-- the entry at a place of a log is that of an event that was logged
 entry-at : (xs : List Logging) (p : ℕ) (d : Entry) → p < length (map entryFor xs) → (x : Logging) × Among x xs × (getD (map entryFor xs) p d ≡ entryFor x)
 entry-at [] p d h = absurd (not-suc-le-zero h)
 entry-at (x ∷ xs) zero d h = (x, first, refl)
@@ -48,6 +51,16 @@ entry-at (x ∷ xs) (suc p) d h = let r = entry-at xs p d (le-of-suc-le-suc h) i
 
 among-entries : (xs : List Logging) (log : List Entry) → log ≡ map entryFor xs → (x : Logging) → Among x xs → Among (entryFor x) log
 among-entries xs log e x m = rw e (among-map entryFor m)
+
+-- an event that logging does not refuse
+log-good : (x : LoggedEvent) → logCause x ≡ 0 → (goodTime (eventTime x) ≡ true) × (goodRsnElement x ≡ true)
+unfolding logCause if_then_else_
+log-good x = go (goodTime (eventTime x)) (goodRsnElement x)
+  where
+    go : (a b : Bool) → (if not a then badTime else if not b then badReportBody else 0) ≡ 0 → (a ≡ true) × (b ≡ true)
+    go true true e = (refl, refl)
+    go true false e = absurd (omega arith)
+    go false b e = absurd (omega arith)
 
 -- ---- events
 
@@ -71,10 +84,11 @@ module _ (i : List ℕ) (cs : List Call) (whole : WellFormed cs) (log : List Ent
   event-tell token place h =
       let r = entry-at (j .list) place pastLog (omega (arith, ap length (j .is))) in
       let m = all-among (j .called) (r .1) in
+      let accepts = log-good (r .0 .event) (all-among (j .good) (r .1)) in
       record {
         content = loggedEvent token (r .0);
         octets = ap (eventElement token) (ap (λ (l : List Entry). getD l place pastLog) (j .is) ∙ r .2);
-        good = ((whole (r .0) m, all-among (j .timed) (r .1)), (m, among-entries (j .list) log (j .is) (r .0) (r .1)));
+        good = ((whole (r .0) m, accepts .0, accepts .1), (m, among-entries (j .list) log (j .is) (r .0) (r .1)));
       }
 
   place-within : (r : EventRequest) (x : Element) (place : ℕ) → nextEventPlace log r x ≡ some place → place < length log

@@ -8,7 +8,7 @@ use Rattle.laws.specs.Members.{Among, first, later}
 use Rattle.laws.proofs.Members.{among-none}
 use Rattle.octets.specs.declared.numbers.Kind.{Kind}
 use Rattle.octets.specs.declared.refusals.Refusal.{Refusal}
-use Rattle.events.specs.Loggings.{Logging, TransitionLengths}
+use Rattle.events.specs.Loggings.{Logging, EventLengths}
 use Rattle.model.specs.Model.{standard, Address, Call, clock, report, Result, ofLength, turnedAway}
 use Rattle.model.specs.Model.{Station as Model·Station}
 use Rattle.model.specs.Stations.{setup, tick, readingOf, step}
@@ -66,14 +66,14 @@ unfolding run
 chain-run none-made = refl
 chain-run (made {ms = ms} a c) = chain-run c ∙ ap (λ (x : Model·Station). run standard x (map callOf ms)) (station-is a)
 
-handed-in : (c : Call) (x : Logging) → loggingCall x ≡ c → HandedIn c → TransitionLengths (x .transition)
+handed-in : (c : Call) (x : Logging) → loggingCall x ≡ c → HandedIn c → EventLengths (x .event)
 handed-in c x e h = rw (← e) at h
 
 chain-formed : {g h : Station} {ms : List Made} → Chain g ms h → WellFormed (map callOf ms)
 chain-formed none-made = λ x m. among-none m
 chain-formed (made a c) = λ x m. by x m (a .handed-in) (chain-formed c)
   where
-    by : {d : Call} {ds : List Call} (x : Logging) → Among (loggingCall x) (d ∷ ds) → HandedIn d → WellFormed ds → TransitionLengths (x .transition)
+    by : {d : Call} {ds : List Call} (x : Logging) → Among (loggingCall x) (d ∷ ds) → HandedIn d → WellFormed ds → EventLengths (x .event)
     by x first h w = h
     by x (later m) h w = w x m
 

@@ -4,7 +4,7 @@
 use mathlib.Core.Path.{_≡_}
 use mathlib.Core.List.{List, [], _∷_}
 use Prim.Native.Nat.{ℕ}
-use Rattle.events.specs.Loggings.{TransitionLengths}
+use Rattle.events.specs.Loggings.{EventLengths}
 use Rattle.model.specs.Model.{standard, Address, Call, clock, logging, frame, report, roam, change}
 use Rattle.model.specs.Stations.{setup, step}
 use Rattle.station.specs.declared.Station.{Station}
@@ -17,10 +17,10 @@ pub record Made : Type 0 where
   pub outcome : Outcome
   pub buffer : List ℕ
 
--- what a caller can hand in: a logged transition's fields are arrays, which have their lengths
+-- what a caller can hand in: a logged event's fields are arrays, which have their lengths
 abbrev pub HandedIn : Call → Type 0
 HandedIn (clock t) = Unit {0}
-HandedIn (logging t e) = TransitionLengths e
+HandedIn (logging t x) = EventLengths x
 HandedIn (frame t d s o) = Unit {0}
 HandedIn (report t s k b) = Unit {0}
 HandedIn (roam t l) = Unit {0}

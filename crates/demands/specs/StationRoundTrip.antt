@@ -14,7 +14,7 @@ use Rattle.octets.specs.Numbers.{successful}
 use Rattle.octets.specs.Addresses.{isGroup}
 use Rattle.octets.specs.Elements.{subelements}
 use Rattle.events.specs.declared.Entry.{Entry}
-use Rattle.events.specs.Loggings.{Logging, entryFor, TransitionLengths}
+use Rattle.events.specs.Loggings.{Logging, entryFor, EventLengths}
 use Rattle.model.specs.declared.Diagnostic.{Diagnostic as DiagnosticElement}
 use Rattle.model.specs.Model.{Capacities, Address, EventRequest, DiagnosticRequest, Requester, Station, Call, report, ofLength}
 use Rattle.model.specs.Requesters.{find}
@@ -40,7 +40,7 @@ pub data Chosen (g : Station) (r : Requester) : (kind : Kind) → ℕ → List (
   diagnostics : {q : DiagnosticRequest} {left : List DiagnosticElement} {xs : List (Content Diagnostic)} → r .diagnostics ≡ some q
       → Gives Diagnostic (nextDiagnostic (octetsOf (g .identity))) (q .elements) xs left → Chosen g r Diagnostic (q .dialog) xs
 
--- a transition that is told was logged by one of the calls, and is in the log; subelements are the identity, Successful; nothing else
+-- an event that is told was logged by one of the calls, and is in the log; subelements are the identity, Successful; nothing else
 -- has octets behind its status
 abbrev pub Truthful : List ℕ → List Call → List Entry → (kind : Kind) → Content kind → Type 0
 Truthful i cs log kind (statusOnly token ty status) = Unit {0}
@@ -63,9 +63,9 @@ pub record RoundTrip (i : List ℕ) (cs : List Call) (g : Station) (a : Address)
   pub wrote : take n buffer ≡ contentFrame kind dialog contents
   pub read : (d : Address) → isGroup d ≡ false → ReadAs d (take n buffer) kind dialog contents
 
--- each logged transition has fields of their lengths, as in the code, where they are arrays
+-- each logged event has fields of their lengths, as in the code, where they are arrays
 abbrev pub WellFormed : List Call → Type 0
-WellFormed cs = (x : Logging) → Among (loggingCall x) cs → TransitionLengths (x .transition)
+WellFormed cs = (x : Logging) → Among (loggingCall x) cs → EventLengths (x .event)
 
 -- for all capacities, every identity and list that setup was given, every list of calls, and every report call behind it that is answered with a length
 abbrev pub StationRoundTrip : Type 0

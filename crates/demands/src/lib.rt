@@ -1,12 +1,15 @@
 // The three demands, stated in specs/ and proved in proofs/: of the model, and of the code for every
 // chain of calls that the station's contracts allow. The functions here are the links of such a
 // chain: each makes one call, and its contract is the chain's.
+use events::PeerLink;
+use events::RsnaEvent;
 use events::Transition;
 use octets::Kind;
 use station::Outcome;
 use station::Station;
 use units::Milliseconds;
 ghost use mathlib.Core.List.{[]};
+ghost use Rattle.events.specs.Loggings.{transition, rsna, peerLink};
 ghost use Rattle.model.specs.Model.{clock, logging, frame, report as Model·report, roam as Model·roam, change};
 ghost use Rattle.demands.specs.Chains.{Allowed, SetUp};
 
@@ -23,9 +26,21 @@ pub fn tick(g: Station, reading: Milliseconds) -> Outcome
 }
 
 pub fn log_transition(g: Station, reading: Milliseconds, t: Transition) -> Outcome
-    ensures { λ r. ⌜ Allowed g (record { call = logging (reading .0) t; outcome = r; buffer = [] }) ⌝ }
+    ensures { λ r. ⌜ Allowed g (record { call = logging (reading .0) (transition t); outcome = r; buffer = [] }) ⌝ }
 {
     g.log_transition(reading, t)
+}
+
+pub fn log_rsna(g: Station, reading: Milliseconds, e: RsnaEvent, rsn: &[u8]) -> Outcome
+    ensures { λ r. ⌜ Allowed g (record { call = logging (reading .0) (rsna e (now (rsn .entry))); outcome = r; buffer = [] }) ⌝ }
+{
+    g.log_rsna(reading, e, rsn)
+}
+
+pub fn log_peer_link(g: Station, reading: Milliseconds, e: PeerLink) -> Outcome
+    ensures { λ r. ⌜ Allowed g (record { call = logging (reading .0) (peerLink e); outcome = r; buffer = [] }) ⌝ }
+{
+    g.log_peer_link(reading, e)
 }
 
 pub fn take_frame(

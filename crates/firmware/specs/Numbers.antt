@@ -115,7 +115,6 @@ numberedElement e = record {
   logged = flag (e .logged);
   length = e .length;
   subs = e .subs;
-  event = e .event;
 }
 
 abbrev pub numberedStep : Reader·Step → Step

@@ -1,6 +1,8 @@
 // Setup, and the calls on a station.
 use crate::Outcome;
 use crate::Reply;
+use events::PeerLink;
+use events::RsnaEvent;
 use events::Transition;
 use octets::kind_of;
 use requesters::Answer;
@@ -9,6 +11,7 @@ use units::Milliseconds;
 ghost use mathlib.Core.Path.{_≡_};
 ghost use mathlib.Core.List.{List, []};
 ghost use Prim.Native.Nat.{ℕ};
+ghost use Rattle.events.specs.Loggings.{transition, rsna, peerLink};
 ghost use Rattle.requesters.specs.Views.{viewAnswer};
 ghost use Rattle.model.specs.Model.{standard, clock, logging, frame, report, roam, change};
 ghost use Rattle.model.specs.Stations.{setup, step};
@@ -77,10 +80,26 @@ pub extern "C" fn dultxibe_tick(g: Station, reading: u32) -> Outcome
 
 // Logs a transition, which the reading ends.
 #[no_mangle]
-pub extern "C" fn dultxibe_log(g: Station, reading: u32, t: Transition) -> Outcome
-    ensures { λ r. ⌜ viewed r [] ≡ numbered (step standard (view g) (logging reading t)) ⌝ }
+pub extern "C" fn dultxibe_log_transition(g: Station, reading: u32, t: Transition) -> Outcome
+    ensures { λ r. ⌜ viewed r [] ≡ numbered (step standard (view g) (logging reading (transition t))) ⌝ }
 {
     outcome_of(g.log_transition(Milliseconds(reading), t))
+}
+
+// Logs an RSNA event, with its RSN element.
+#[no_mangle]
+pub extern "C" fn dultxibe_log_rsna(g: Station, reading: u32, e: RsnaEvent, rsn: &[u8]) -> Outcome
+    ensures { λ r. ⌜ viewed r [] ≡ numbered (step standard (view g) (logging reading (rsna e (now (rsn .entry))))) ⌝ }
+{
+    outcome_of(g.log_rsna(Milliseconds(reading), e, rsn))
+}
+
+// Logs a peer-to-peer link event.
+#[no_mangle]
+pub extern "C" fn dultxibe_log_peer_link(g: Station, reading: u32, e: PeerLink) -> Outcome
+    ensures { λ r. ⌜ viewed r [] ≡ numbered (step standard (view g) (logging reading (peerLink e))) ⌝ }
+{
+    outcome_of(g.log_peer_link(Milliseconds(reading), e))
 }
 
 // A frame from a source to a destination.

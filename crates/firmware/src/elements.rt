@@ -75,7 +75,6 @@ pub(crate) fn elements_of(
 pub(crate) fn report_element(e: Element) -> ReportElement
     ensures { λ r. ⌜ r ≡ numberedElement e ⌝ }
 {
-    let event = e.event;
     ReportElement {
         token: e.token,
         ty: e.ty,
@@ -83,6 +82,5 @@ pub(crate) fn report_element(e: Element) -> ReportElement
         logged: flag_number(e.logged),
         length: e.length,
         subs: e.subs,
-        event,
     }
 }

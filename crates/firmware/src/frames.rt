@@ -9,15 +9,21 @@ use crate::elements::report_element;
 use octets::Kind;
 use octets::kind_of;
 use report_reader::Cursor;
-use report_reader::Element;
+use report_reader::PeerLinkReport;
+use report_reader::RsnaReport;
+use report_reader::TransitionReport;
+use report_reader::peer_link_in;
 use report_reader::read_report;
+use report_reader::rsna_in;
+use report_reader::transition_in;
 use request_writer::Written;
 use request_writer::write_request;
 ghost use mathlib.Core.Path.{_≡_};
 ghost use mathlib.Core.List.{map};
 ghost use Rattle.octets.specs.Numbers.{kindOf};
 ghost use Rattle.request_writer.specs.Writer.{writeRequest};
-ghost use Rattle.report_reader.specs.Reader.{foundStep, stepAt, readReport};
+ghost use Rattle.report_reader.specs.Decoders.{transitionIn, rsnaIn, peerLinkIn};
+ghost use Rattle.report_reader.specs.Reader.{stepAt, readReport};
 ghost use Rattle.firmware.specs.Numbers.{numberOf, elementFrom, replyWritten, write, numberedWrite, numberedReport, numberedStep};
 
 // The number of a kind.
@@ -81,23 +87,7 @@ pub extern "C" fn dultxibe_read_report(destination: &[u8; 6], s: &[u8]) -> Repor
     }
 }
 
-// An element that was found.
-fn found_step(element: Element, rest: usize, next: usize) -> Step
-    ensures { λ r. ⌜ r ≡ numberedStep (foundStep element rest next) ⌝ }
-{
-    Step {
-        cause: 0,
-        found: 1,
-        place: 0,
-        rest,
-        next,
-        element: report_element(element),
-    }
-}
-
-// What stands at a position of a report frame of a kind; the first element stands at 3. One with a
-// transition has a return of its own, for speed: merged with the zeros of the others, its octets go
-// through the stack.
+// What stands at a position of a report frame of a kind; the first element stands at 3.
 #[no_mangle]
 pub extern "C" fn dultxibe_next_element(kind: u8, at: usize, s: &[u8]) -> Step
     ensures { λ r. ⌜ r ≡ numberedStep (stepAt (now (s .entry)) (kindOf kind) at) ⌝ }
@@ -105,9 +95,6 @@ pub extern "C" fn dultxibe_next_element(kind: u8, at: usize, s: &[u8]) -> Step
     let cursor = Cursor { at };
     let step = cursor.next(s, kind_of(kind));
     let element = step.element;
-    if element.logged {
-        return found_step(element, step.rest, step.next.at);
-    }
     Step {
         cause: step.refusal.number,
         found: flag_number(step.found),
@@ -116,4 +103,26 @@ pub extern "C" fn dultxibe_next_element(kind: u8, at: usize, s: &[u8]) -> Step
         next: step.next.at,
         element: report_element(element),
     }
+}
+
+// The fields of an event, from the octets behind a status; the element's type says which kind it is.
+#[no_mangle]
+pub extern "C" fn dultxibe_read_transition(o: &[u8]) -> TransitionReport
+    ensures { λ r. ⌜ r ≡ transitionIn (now (o .entry)) ⌝ }
+{
+    transition_in(o)
+}
+
+#[no_mangle]
+pub extern "C" fn dultxibe_read_rsna(o: &[u8]) -> RsnaReport
+    ensures { λ r. ⌜ r ≡ rsnaIn (now (o .entry)) ⌝ }
+{
+    rsna_in(o)
+}
+
+#[no_mangle]
+pub extern "C" fn dultxibe_read_peer_link(o: &[u8]) -> PeerLinkReport
+    ensures { λ r. ⌜ r ≡ peerLinkIn (now (o .entry)) ⌝ }
+{
+    peer_link_in(o)
 }

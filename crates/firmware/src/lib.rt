@@ -5,7 +5,6 @@ mod calls;
 mod elements;
 mod frames;
 
-use report_reader::Event;
 use requests::ELEMENT_CAPACITY;
 use station::Station;
 
@@ -30,11 +29,11 @@ pub struct Outcome {
 #[repr(C)]
 pub struct Condition {
     pub present: u8,
-    pub octets: [u8; 6],
+    pub octets: [u8; 8],
 }
 
 // A request element: the limit of an event, the timeout in seconds of a diagnostic, the conditions of
-// event type 0.
+// an event type that has a table.
 #[repr(C)]
 pub struct RequestElement {
     pub token: u8,
@@ -66,7 +65,7 @@ pub struct Report {
 }
 
 // The fields of a report element: how many octets stand behind its status, how many subelements they
-// are (in a diagnostic), and whether they are a transition (1; else 0, and it is all zeros).
+// are (in a diagnostic), and whether they are an event of its type (1; else 0).
 #[repr(C)]
 pub struct ReportElement {
     pub token: u8,
@@ -75,7 +74,6 @@ pub struct ReportElement {
     pub logged: u8,
     pub length: usize,
     pub subs: usize,
-    pub event: Event,
 }
 
 // What stands at a position of a report frame: refused by a cause at a place; or cause 0, and an

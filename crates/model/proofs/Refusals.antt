@@ -16,14 +16,15 @@ use Rattle.octets.specs.declared.numbers.Kind.{Kind}
 use Rattle.octets.specs.declared.numbers.Kind.the-variants.{Event, Diagnostic}
 use Rattle.octets.specs.declared.refusals.Refusal.{Refusal}
 use Rattle.octets.specs.Addresses.{same}
-use Rattle.octets.specs.Refusals.{noElement, groupDestination, unknownRequester, shortBuffer, badTime, badRequesterList, badIdentity}
+use Rattle.octets.specs.Refusals.{noElement, groupDestination, unknownRequester, shortBuffer, badTime, badRequesterList, badIdentity, badReportBody}
 use Rattle.requests.specs.declared.Request.{Request}
 use Rattle.requests.specs.Requests.{requestCauses, readRequest}
 use Rattle.requests.proofs.Causes.{request-listed}
 use Rattle.events.specs.declared.Entry.{Entry}
+use Rattle.events.specs.Loggings.{LoggedEvent}
 use Rattle.model.specs.Model.{Capacities, Address, Requester, Station, Call, clock, logging, frame, report, roam, change, Answer, accepted, nothing, ofLength, turnedAway, Result}
 use Rattle.model.specs.Requesters.{find, put}
-use Rattle.model.specs.Stations.{refusedFor, nobody, setup, tick, logCall, Served, withRequester, serveFound, serveListed, takeRequest, requestCall, frameCall, giveEvents, giveDiagnostics, ifOutstanding, octetsOf, giveKind, giveReport, reportCall, renameWith, rename, act, readingOf, step}
+use Rattle.model.specs.Stations.{refusedFor, nobody, setup, tick, logCause, logCall, Served, withRequester, serveFound, serveListed, takeRequest, requestCall, frameCall, giveEvents, giveDiagnostics, ifOutstanding, octetsOf, giveKind, giveReport, reportCall, renameWith, rename, act, readingOf, step}
 use Rattle.model.specs.Refusals.{lentBuffer, causesOf, setupCauses, RefusedBy, LeftAlone, RefusedCall, LeftUnnamed, RefusedSetup}
 
 -- ---- what a refusal leaves of a state S (a station, or a requester) and of a lent buffer
@@ -128,12 +129,28 @@ module _ (most : Capacities) (log : List Entry) (l : List Address) (g : Station)
   unfolding rename
   rename-kept = either (Kept renameCauses g []) _ _ _ (λ _. by-cause renameCauses g [] badRequesterList first) (λ _. renamed-kept (g .identity))
 
+-- ---- logging
+
+abbrev loggingCauses : List ℕ
+loggingCauses = badTime ∷ badReportBody ∷ []
+
+log-listed : (x : LoggedEvent) → (logCause x ≡ 0 → ⊥) → Among (logCause x) loggingCauses
+unfolding logCause
+log-listed x =
+    either (λ (n : ℕ). (n ≡ 0 → ⊥) → Among n loggingCauses) _ _ _ (λ _ _. first)
+    (λ _. either (λ (n : ℕ). (n ≡ 0 → ⊥) → Among n loggingCauses) _ _ _ (λ _ _. later first) (λ _ z. absurd (z refl)))
+
+log-kept : (most : Capacities) (t : ℕ) (x : LoggedEvent) (g : Station) → Kept loggingCauses g [] (logCall most t x g)
+unfolding logCall
+log-kept most t x g =
+    either (Kept loggingCauses g []) _ _ _ (λ h. by-cause loggingCauses g [] (logCause x) (log-listed x (eqb-false _ 0 (not-true _ h)))) (λ _ q h. never cc)
+
 -- ---- every call
 
 act-kept : (most : Capacities) (c : Call) (g : Station) → Kept (causesOf c) g (lentBuffer c) (act most c g)
-unfolding act causesOf lentBuffer logCall requestCall frameCall reportCall serveListed
+unfolding act causesOf lentBuffer requestCall frameCall reportCall serveListed
 act-kept most (clock t) g = λ q e. never cc
-act-kept most (logging t e) g = either (Kept (badTime ∷ []) g []) _ _ _ (λ _. by-cause (badTime ∷ []) g [] badTime first) (λ _ q h. never cc)
+act-kept most (logging t e) g = log-kept most t e g
 act-kept most (frame t d a o) g =
     either (Kept frameCauses g []) _ _ _ (λ _. by-cause frameCauses g [] groupDestination first)
     (λ _. found-kept frameCauses a (takeRequest t (g .log) (readRequest (most .elements) o)) [] g (later first) (take-left (most .elements) t (g .log) o) (find a (g .requesters)) refl)

@@ -11,18 +11,17 @@ use Rattle.laws.proofs.Choice.{either}
 use Rattle.octets.specs.declared.numbers.Kind.{Kind}
 use Rattle.octets.specs.declared.numbers.Kind.the-variants.{Event, Diagnostic}
 use Rattle.octets.specs.Addresses.{same, isGroup}
-use Rattle.octets.specs.Times.{goodTime}
+use lib.Dec.{eqb}
 use Rattle.octets.specs.Refusals.{groupDestination, unknownRequester}
 use Rattle.octets.proofs.AddressLaws.{same-true}
 use Rattle.requests.specs.declared.Request.{Request}
 use Rattle.events.specs.declared.Entry.{Entry}
-use Rattle.events.specs.declared.Transition.{Transition}
 use Rattle.model.specs.Model.{Capacities, Address, Requester, Station, Call, clock, logging, frame, report, roam, change, accepted, Result}
 use Rattle.requests.specs.Requests.{readRequest}
-use Rattle.events.specs.Transitions.{entryOf}
+use Rattle.events.specs.Loggings.{LoggedEvent, entryOf}
 use Rattle.events.specs.Log.{pushed}
 use Rattle.model.specs.Requesters.{badList, newRequester, find, put}
-use Rattle.model.specs.Stations.{refusedFor, tickRequester, tick, lowerRequester, logRequester, logEntry, logCall, Served, withRequester, serveFound, serveListed, takeKind, takeRequest, requestCall, frameCall, giveEvents, giveDiagnostics, ifOutstanding, octetsOf, giveKind, giveReport, reportCall, renameWith, rename, act, readingOf, step}
+use Rattle.model.specs.Stations.{refusedFor, tickRequester, tick, lowerRequester, logRequester, logEntry, logCause, logCall, Served, withRequester, serveFound, serveListed, takeKind, takeRequest, requestCall, frameCall, giveEvents, giveDiagnostics, ifOutstanding, octetsOf, giveKind, giveReport, reportCall, renameWith, rename, act, readingOf, step}
 use Rattle.model.specs.Runs.{sender, Reply, reply, toSender}
 use Rattle.laws.proofs.Choice.{apply-if}
 use Rattle.octets.proofs.AddressLaws.{same-sym}
@@ -89,9 +88,9 @@ onSlot f v = withSlot v (Option·map f (v .slot))
 tickSeen : ℕ → Seen → Seen
 tickSeen reading v = onSlot (tickRequester reading) v
 
-logSeen : Capacities → ℕ → Transition → Seen → Seen
+logSeen : Capacities → ℕ → LoggedEvent → Seen → Seen
 logSeen most reading e v =
-    if not (goodTime (e .time)) then v
+    if not (eqb (logCause e) 0) then v
     else record { identity = v .identity; log = pushed (most .events) (v .log) (entryOf reading e); slot = Option·map (logRequester most (v .log)) (v .slot) }
 
 servedSeen : Address → Address → (Requester → Served) → Seen → Seen
@@ -162,11 +161,11 @@ seen-tick : (s : Address) (reading : ℕ) (g : Station) → seen s (tick reading
 unfolding seen tick tickSeen
 seen-tick s reading g = ap (withSlot (seen s g)) (find-map (tickRequester reading) (tick-keeps reading) s (g .requesters))
 
-seen-log : (most : Capacities) (s : Address) (reading : ℕ) (e : Transition) (g : Station) → seen s (logCall most reading e g .station) ≡ logSeen most reading e (seen s g)
+seen-log : (most : Capacities) (s : Address) (reading : ℕ) (e : LoggedEvent) (g : Station) → seen s (logCall most reading e g .station) ≡ logSeen most reading e (seen s g)
 unfolding seen logCall logEntry logSeen
 seen-log most s reading e g =
-    apply-if (λ (x : Result). seen s (x .station)) (not (goodTime (e .time))) _ _
-    ∙ ap (λ (o : Option Requester). if not (goodTime (e .time)) then seen s g else record { identity = g .identity; log = pushed (most .events) (g .log) (entryOf reading e); slot = o })
+    apply-if (λ (x : Result). seen s (x .station)) (not (eqb (logCause e) 0)) _ _
+    ∙ ap (λ (o : Option Requester). if not (eqb (logCause e) 0) then seen s g else record { identity = g .identity; log = pushed (most .events) (g .log) (entryOf reading e); slot = o })
     (find-map (logRequester most (g .log)) (log-keeps most (g .log)) s (g .requesters))
 
 module _ (s a : Address) (serve : Requester → Served) (b : List ℕ) (g : Station) (keeps : ServeKeeps serve) where

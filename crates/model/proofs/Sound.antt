@@ -8,21 +8,18 @@ use mathlib.Core.Option.{Option, none, some}
 use native.Mathlib.Omega.{arith}
 use lib.ListN.{length, drop}
 use lib.Dec.{ltb}
-use borrow.Author.Tests.{not-false}
+use borrow.Author.Tests.{not-false, eqb-true}
 use Rattle.laws.specs.Members.{Among, first, later, All, nil, also}
 use Rattle.laws.specs.Choice.{if_then_else_}
 use Rattle.laws.proofs.Members.{all-end}
 use Rattle.laws.proofs.Choice.{either, never}
-use Rattle.octets.specs.Times.{goodTime}
 use Rattle.events.specs.declared.Entry.{Entry}
-use Rattle.events.specs.declared.Transition.{Transition}
-use Rattle.events.specs.Transitions.{entryOf}
 use Rattle.events.specs.Log.{pushed}
-use Rattle.events.specs.Loggings.{Logging, entryFor}
+use Rattle.events.specs.Loggings.{LoggedEvent, Logging, entryFor}
 use Rattle.identities.specs.Identity.{goodIdentity}
 use Rattle.model.specs.Model.{Capacities, Address, Requester, Station, Call, clock, logging, frame, report, roam, change, Result}
 use Rattle.model.specs.Requesters.{newRequester, find, put}
-use Rattle.model.specs.Stations.{nobody, newStation, setup, tickRequester, tick, logRequester, logEntry, logCall, Served, withRequester, serveFound, serveListed, requestCall, frameCall, reportCall, renameWith, rename, act, readingOf, step}
+use Rattle.model.specs.Stations.{nobody, newStation, setup, tickRequester, tick, logRequester, logEntry, logCause, logCall, Served, withRequester, serveFound, serveListed, requestCall, frameCall, reportCall, renameWith, rename, act, readingOf, step}
 use Rattle.model.specs.Runs.{run}
 use Rattle.model.specs.Sound.{loggingCall, LoggedBy, Identified, identified, unidentified, Sound, AlwaysSound}
 
@@ -30,24 +27,24 @@ use Rattle.model.specs.Sound.{loggingCall, LoggedBy, Identified, identif
 
 module _ (cs : List Call) where
   logged-empty : LoggedBy cs []
-  logged-empty = record { list = []; is = refl; called = nil; timed = nil }
+  logged-empty = record { list = []; is = refl; called = nil; good = nil }
 
   logged-less : (log : List Entry) → LoggedBy cs log → LoggedBy cs (drop 1 log)
-  logged-less log j = go (j .list) (j .is) (j .called) (j .timed)
+  logged-less log j = go (j .list) (j .is) (j .called) (j .good)
     where
-      go : (xs : List Logging) → log ≡ map entryFor xs → All (λ x. Among (loggingCall x) cs) xs → All (λ x. goodTime (x .transition .time) ≡ true) xs → LoggedBy cs (drop 1 log)
+      go : (xs : List Logging) → log ≡ map entryFor xs → All (λ x. Among (loggingCall x) cs) xs → All (λ x. logCause (x .event) ≡ 0) xs → LoggedBy cs (drop 1 log)
       go [] e f t = rw e logged-empty
-      go (y ∷ xs) e (also f fs) (also t ts) = record { list = xs; is = ap (drop 1) e; called = fs; timed = ts }
+      go (y ∷ xs) e (also f fs) (also t ts) = record { list = xs; is = ap (drop 1) e; called = fs; good = ts }
 
-  logged-more : (log : List Entry) (x : Logging) → LoggedBy cs log → Among (loggingCall x) cs → goodTime (x .transition .time) ≡ true → LoggedBy cs (log ++ (entryFor x ∷ []))
+  logged-more : (log : List Entry) (x : Logging) → LoggedBy cs log → Among (loggingCall x) cs → logCause (x .event) ≡ 0 → LoggedBy cs (log ++ (entryFor x ∷ []))
   logged-more log x j m t = record {
     list = j .list ++ (x ∷ []);
     is = ap (λ (l : List Entry). l ++ (entryFor x ∷ [])) (j .is) ∙ sym (map-append entryFor (j .list) (x ∷ []));
     called = all-end (j .list) (j .called) m;
-    timed = all-end (j .list) (j .timed) t;
+    good = all-end (j .list) (j .good) t;
   }
 
-  logged-pushed : (n : ℕ) (log : List Entry) (x : Logging) → LoggedBy cs log → Among (loggingCall x) cs → goodTime (x .transition .time) ≡ true → LoggedBy cs (pushed n log (entryFor x))
+  logged-pushed : (n : ℕ) (log : List Entry) (x : Logging) → LoggedBy cs log → Among (loggingCall x) cs → logCause (x .event) ≡ 0 → LoggedBy cs (pushed n log (entryFor x))
   unfolding pushed
   logged-pushed n log x j = logged-more _ x (either (LoggedBy cs) (ltb (length log) n) log (drop 1 log) (λ _. j) (λ _. logged-less log j))
 
@@ -83,12 +80,12 @@ module _ (most : Capacities) (i : List ℕ) (cs : List Call) where
     unfolding rename
     sound-rename log l j = either After _ _ _ (λ _. s) (λ _. sound-renamed log l j (g .identity) refl)
 
-    sound-logging : (t : ℕ) (e : Transition) → Among (logging t e) cs → After (logCall most t e g)
+    sound-logging : (t : ℕ) (e : LoggedEvent) → Among (logging t e) cs → After (logCall most t e g)
     unfolding logCall logEntry
     sound-logging t e m =
         either After _ _ _ (λ _. s)
         (λ h. record {
-          log = logged-pushed cs (most .events) (g .log) (record { reading = t; transition = e }) (s .log) m (not-false _ h);
+          log = logged-pushed cs (most .events) (g .log) (record { reading = t; event = e }) (s .log) m (eqb-true _ 0 (not-false _ h));
           identity = identified-kept i g _ refl (λ p. ap (map (logRequester most (g .log))) p) (s .identity);
         })
 

@@ -7,9 +7,9 @@ use Rattle.octets.specs.declared.numbers.Kind.{Kind}
 use Rattle.octets.specs.declared.refusals.Refusal.{Refusal}
 use Rattle.requests.specs.declared.Element.{Element}
 use Rattle.events.specs.declared.Entry.{Entry}
-use Rattle.events.specs.declared.Transition.{Transition}
 use Rattle.requests.specs.Elements.{elementCapacity}
 use Rattle.events.specs.Log.{logCapacity}
+use Rattle.events.specs.Loggings.{LoggedEvent}
 use Rattle.model.specs.declared.Diagnostic.{Diagnostic}
 
 -- how much a station holds: events in its log, requesters, elements of a request frame
@@ -61,7 +61,7 @@ pub record Station : Type 0 where
 pub data Call : Type 0 where
   -- a bare clock reading
   clock : ℕ → Call
-  logging : ℕ → Transition → Call
+  logging : ℕ → LoggedEvent → Call
   -- destination, source, octets
   frame : ℕ → Address → Address → List ℕ → Call
   -- requester, kind, the lent buffer's octets at entry

@@ -6,7 +6,7 @@ use mathlib.Core.Path.{_≡_}
 use mathlib.Core.List.{List, [], _∷_}
 use Rattle.laws.specs.Members.{Among}
 use Rattle.octets.specs.declared.refusals.Refusal.{Refusal}
-use Rattle.octets.specs.Refusals.{noElement, groupDestination, unknownRequester, shortBuffer, badTime, badRequesterList, badIdentity}
+use Rattle.octets.specs.Refusals.{noElement, groupDestination, unknownRequester, shortBuffer, badTime, badRequesterList, badIdentity, badReportBody}
 use Rattle.requests.specs.Requests.{requestCauses}
 use Rattle.model.specs.Model.{Capacities, Address, Station, Call, clock, logging, frame, report, roam, change, turnedAway}
 use Rattle.model.specs.Stations.{nobody, setup, readingOf, step}
@@ -20,11 +20,11 @@ lentBuffer (report t s k b) = b
 lentBuffer (roam t l) = []
 lentBuffer (change t l) = []
 
--- "a gate's frame call 11, 12, then, as in the frame program, 1, 2, 3, .. 10"; "Report call: 12, 13. Logging: 14."; "a move or network
+-- "a gate's frame call 11, 12, then, as in the frame program, 1, 2, 3, .. 10"; "Report call: 12, 13. Logging: 14.", and by document 02 (a) 17; "a move or network
 -- change .. is refused by 15 for its list, otherwise by 16". A bare clock reading is never refused
 unfoldable pub causesOf : Call → List ℕ
 causesOf (clock t) = []
-causesOf (logging t e) = badTime ∷ []
+causesOf (logging t e) = badTime ∷ badReportBody ∷ []
 causesOf (frame t d s o) = groupDestination ∷ unknownRequester ∷ requestCauses
 causesOf (report t s k b) = unknownRequester ∷ shortBuffer ∷ []
 causesOf (roam t l) = badRequesterList ∷ badIdentity ∷ []

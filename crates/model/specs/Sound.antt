@@ -7,23 +7,22 @@ use mathlib.Core.List.{List, [], map}
 use mathlib.Core.Option.{none, some}
 use Prim.Native.Nat.{ℕ}
 use Rattle.laws.specs.Members.{Among, All}
-use Rattle.octets.specs.Times.{goodTime}
 use Rattle.events.specs.declared.Entry.{Entry}
 use Rattle.events.specs.Loggings.{Logging, entryFor}
 use Rattle.identities.specs.Identity.{goodIdentity}
 use Rattle.model.specs.Model.{Capacities, Address, Station, Call, logging}
-use Rattle.model.specs.Stations.{setup, step}
+use Rattle.model.specs.Stations.{setup, logCause, step}
 use Rattle.model.specs.Runs.{run}
 
 abbrev pub loggingCall : Logging → Call
-loggingCall x = logging (x .reading) (x .transition)
+loggingCall x = logging (x .reading) (x .event)
 
--- a log whose entries, oldest first, were left by some of the calls, each with a good time
+-- a log whose entries, oldest first, were left by some of the calls, each of an event that logging does not refuse
 pub record LoggedBy (cs : List Call) (log : List Entry) : Type 0 where
   pub list : List Logging
   pub is : log ≡ map entryFor list
   pub called : All (λ x. Among (loggingCall x) cs) list
-  pub timed : All (λ x. goodTime (x .transition .time) ≡ true) list
+  pub good : All (λ x. logCause (x .event) ≡ 0) list
 
 -- a station that setup was given the identity i for: it has it, and it is a good one; or it has none, and no requester
 pub data Identified (i : List ℕ) (g : Station) : Type 0 where

@@ -14,14 +14,14 @@ use Rattle.requests.specs.Elements.{elementCapacity}
 use Rattle.requests.specs.Requests.{readRequest}
 use Rattle.events.specs.declared.Entry.{Entry}
 use Rattle.events.specs.declared.Transition.{Transition}
-use Rattle.events.specs.Transitions.{entryOf}
+use Rattle.events.specs.Loggings.{transition, entryOf}
 use Rattle.events.specs.Conditions.{meets}
 use Rattle.model.specs.Model.{DiagnosticRequest}
 use Rattle.model.specs.Diagnostics.{dropLate}
 
 pub data Case : Type 0 where
   -- departure, arrival, milliseconds, TUs
-  transition : ℕ → ℕ → ℕ → ℕ → Case
+  crossing : ℕ → ℕ → ℕ → ℕ → Case
   -- milliseconds, TUs
   aged : ℕ → ℕ → Case
   -- a request frame, its refusal's number and place
@@ -33,7 +33,7 @@ pub data Case : Type 0 where
 
 unfoldable pub cases : List Case
 cases =
-    transition 4294967290 10 16 15
+    crossing 4294967290 10 16 15
     ∷ aged 1 0
     ∷ aged 2 1
     ∷ aged 67107 65534
@@ -67,18 +67,18 @@ slowTransition = record {
 }
 
 unfoldable pub slow : Entry
-slow = entryOf 10 slowTransition
+slow = entryOf 10 (transition slowTransition)
 
 -- the conditions of an element with a threshold below 256 TU
 unfoldable pub leastTransition : ℕ → List Condition
-leastTransition tus = absent ∷ absent ∷ record { present = true; octets = tus ∷ 0 ∷ 0 ∷ 0 ∷ 0 ∷ 0 ∷ [] } ∷ absent ∷ absent ∷ []
+leastTransition tus = absent ∷ absent ∷ record { present = true; octets = tus ∷ 0 ∷ 0 ∷ 0 ∷ 0 ∷ 0 ∷ 0 ∷ 0 ∷ [] } ∷ absent ∷ absent ∷ []
 
 unfoldable pub equal : Bool → Bool → Bool
 equal true b = b
 equal false b = not b
 
 unfoldable pub caseHolds : Case → Bool
-caseHolds (transition departure arrival milliseconds tus) = eqb (age arrival departure) milliseconds && eqb (tusOf milliseconds) tus
+caseHolds (crossing departure arrival milliseconds tus) = eqb (age arrival departure) milliseconds && eqb (tusOf milliseconds) tus
 caseHolds (aged milliseconds tus) = eqb (tusOf milliseconds) tus
 caseHolds (refusedFrame o number place) = eqb (readRequest elementCapacity o .refusal .number) number && eqb (readRequest elementCapacity o .refusal .place) place
 caseHolds (timeout seconds accepted reading alive) =

@@ -27,7 +27,7 @@ shortElement = 5
 abbrev pub badElementToken : ℕ
 badElementToken = 6
 
--- "Subelement passes the end, or a transition subelement has a wrong length"
+-- "Subelement passes the end, or a transition subelement has a wrong length"; document 02 (a): "a wrong length in any of the new subelements"
 abbrev pub badSubelement : ℕ
 badSubelement = 7
 
@@ -67,7 +67,8 @@ badRequesterList = 15
 abbrev pub badIdentity : ℕ
 badIdentity = 16
 
--- "Report status over 4; event body not 3 with status 1 to 4; event type 0 Successful not 3 or 33"
+-- "Report status over 4; event body not 3 with status 1 to 4; event type 0 Successful not 3 or 33"; document 02 (a): "a wrong report body",
+-- and an RSN element that "is 22 octets or absent"
 abbrev pub badReportBody : ℕ
 badReportBody = 17
 

@@ -6,11 +6,12 @@ use lib.Dec.{eqb}
 use lib.ListN.{length, getD, take, drop, replicate}
 use Rattle.laws.specs.Choice.{if_then_else_}
 use Rattle.laws.specs.Walk.{repeatWhile}
+use Rattle.events.specs.Loggings.{transition, rsna, peerLink}
 use Rattle.model.specs.Model.{standard, Address, Station, Result, Call, clock, logging, frame, report, roam, change}
 use Rattle.model.specs.Stations.{setup, step}
 use Rattle.traces.specs.declared.calls.Span.{Span}
 use Rattle.traces.specs.Places.{longestLength}
-use Rattle.traces.specs.Records.{recordEnd, wholeRecord, fieldsOf, millisecondsAt, addressesAt, setupFields, transitionFields, frameFields, reportFields, moveFields}
+use Rattle.traces.specs.Records.{recordEnd, wholeRecord, fieldsOf, millisecondsAt, addressesAt, setupFields, transitionFields, frameFields, reportFields, moveFields, rsnaFields, peerLinkFields}
 
 -- ---- the call of a record
 
@@ -28,8 +29,8 @@ setupAt s at = let c = setupFields s (fieldsOf s at) in setup standard (spanned 
 abbrev pub clockAt : List ℕ → ℕ → Call
 clockAt s at = clock (millisecondsAt s (fieldsOf s at) .0)
 
-abbrev pub loggingAt : List ℕ → ℕ → Call
-loggingAt s at = logging (millisecondsAt s (fieldsOf s at) .0) (transitionFields s (fieldsOf s at))
+abbrev pub logTransitionAt : List ℕ → ℕ → Call
+logTransitionAt s at = logging (millisecondsAt s (fieldsOf s at) .0) (transition (transitionFields s (fieldsOf s at)))
 
 abbrev pub frameAt : List ℕ → ℕ → Call
 frameAt s at = let c = frameFields s (fieldsOf s at) in frame (c .reading .0) (c .destination) (c .source) (spanned s (c .frame))
@@ -44,6 +45,12 @@ roamAt s at = let c = moveFields s (fieldsOf s at) in roam (c .reading .0) (list
 abbrev pub changeAt : List ℕ → ℕ → Call
 changeAt s at = let c = moveFields s (fieldsOf s at) in change (c .reading .0) (listAt s (c .count) (c .list))
 
+abbrev pub logRsnaAt : List ℕ → ℕ → Call
+logRsnaAt s at = let c = rsnaFields s (fieldsOf s at) in logging (millisecondsAt s (fieldsOf s at) .0) (rsna (c .event) (spanned s (c .rsn)))
+
+abbrev pub logPeerLinkAt : List ℕ → ℕ → Call
+logPeerLinkAt s at = logging (millisecondsAt s (fieldsOf s at) .0) (peerLink (peerLinkFields s (fieldsOf s at)))
+
 -- ---- a trace
 
 -- the station after a record, by its number; the console's records touch no station
@@ -51,11 +58,13 @@ unfoldable pub stationAfter : List ℕ → ℕ → Station → Station
 stationAfter s at g =
     if eqb (getD s at 0) 0 then setupAt s at .station
     else if eqb (getD s at 0) 1 then step standard g (clockAt s at) .station
-    else if eqb (getD s at 0) 2 then step standard g (loggingAt s at) .station
+    else if eqb (getD s at 0) 2 then step standard g (logTransitionAt s at) .station
     else if eqb (getD s at 0) 3 then step standard g (frameAt s at) .station
     else if eqb (getD s at 0) 4 then step standard g (reportAt s at) .station
     else if eqb (getD s at 0) 5 then step standard g (roamAt s at) .station
     else if eqb (getD s at 0) 6 then step standard g (changeAt s at) .station
+    else if eqb (getD s at 0) 7 then step standard g (logRsnaAt s at) .station
+    else if eqb (getD s at 0) 8 then step standard g (logPeerLinkAt s at) .station
     else g
 
 -- how far the records reach, and the station after them

@@ -22,6 +22,7 @@ use traces::addresses_at;
 use traces::elements_at;
 use traces::frame_call_at;
 use traces::move_at;
+use traces::peer_link_at;
 use traces::put_answer;
 use traces::put_buffer;
 use traces::put_trace_refusal;
@@ -29,6 +30,7 @@ use traces::reader_call_at;
 use traces::reading_at;
 use traces::record_end;
 use traces::report_call_at;
+use traces::rsna_call_at;
 use traces::setup_at;
 use traces::transition_at;
 use traces::writer_call_at;
@@ -36,7 +38,7 @@ ghost use mathlib.Core.Path.{_≡_};
 ghost use Rattle.model.specs.Model.{standard, report as Model·report};
 ghost use Rattle.model.specs.Stations.{step};
 ghost use Rattle.station.specs.Views.{view};
-ghost use Rattle.replay.specs.Replay.{spanned, setupAt, clockAt, loggingAt, frameAt, reportAt, roamAt, changeAt, stationAfter, replayed, replayTrace};
+ghost use Rattle.replay.specs.Replay.{spanned, setupAt, clockAt, logTransitionAt, frameAt, reportAt, roamAt, changeAt, logRsnaAt, logPeerLinkAt, stationAfter, replayed, replayTrace};
 
 // A trace has at most so many octets.
 const LONGEST: usize = 262144;
@@ -101,7 +103,7 @@ fn tick(g: Station, s: &[u8], at: usize) -> Station
 }
 
 fn log_transition(g: Station, s: &[u8], at: usize) -> Station
-    ensures { λ r. ⌜ view r ≡ step standard (view g) (loggingAt (now (s .entry)) at) .station ⌝ }
+    ensures { λ r. ⌜ view r ≡ step standard (view g) (logTransitionAt (now (s .entry)) at) .station ⌝ }
 {
     after(g.log_transition(reading_at(s, at), transition_at(s, at)))
 }
@@ -158,6 +160,21 @@ fn change_network(g: Station, s: &[u8], at: usize) -> Station
     after(g.change_network(reading, &list[..n]))
 }
 
+fn log_rsna(g: Station, s: &[u8], at: usize) -> Station
+    ensures { λ r. ⌜ view r ≡ step standard (view g) (logRsnaAt (now (s .entry)) at) .station ⌝ }
+{
+    let c = rsna_call_at(s, at);
+    let event = c.event;
+    let rsn = c.rsn;
+    after(g.log_rsna(reading_at(s, at), event, part(s, rsn)))
+}
+
+fn log_peer_link(g: Station, s: &[u8], at: usize) -> Station
+    ensures { λ r. ⌜ view r ≡ step standard (view g) (logPeerLinkAt (now (s .entry)) at) .station ⌝ }
+{
+    after(g.log_peer_link(reading_at(s, at), peer_link_at(s, at)))
+}
+
 fn answer_of(w: Written) -> Answer {
     let refusal = w.refusal;
     if refusal.number != 0 {
@@ -202,6 +219,8 @@ fn call(g: Station, s: &[u8], at: usize) -> Station
         4 => report(g, s, at),
         5 => roam(g, s, at),
         6 => change_network(g, s, at),
+        7 => log_rsna(g, s, at),
+        8 => log_peer_link(g, s, at),
         16 => {
             write(s, at);
             g

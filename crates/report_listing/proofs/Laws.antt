@@ -46,10 +46,10 @@ pub tail-most : (b : Bool) → unreadMost ≤ tailMost b
 tail-most true = omega arith
 tail-most false = omega arith
 
-line-most : (cur : ℕ) (t : Step) → Extent cur t → lineMost (t .element .logged) ≤ 14 * (t .next .at - cur)
-line-most cur t x = go (t .element .logged) (x .event)
+line-most : (s : List ℕ) (cur : ℕ) (t : Step) → Extent s cur t → lineMost (t .element .logged) ≤ 14 * (t .next .at - cur)
+line-most s cur t x = go (t .element .logged) (x .event)
   where
-    go : (b : Bool) → (b ≡ true → t .next .at ≡ cur + 35) → lineMost b ≤ 14 * (t .next .at - cur)
+    go : (b : Bool) → (b ≡ true → cur + 26 ≤ t .next .at) → lineMost b ≤ 14 * (t .next .at - cur)
     go true f = omega (arith, f refl)
     go false f = omega (arith, x .least)
 
@@ -100,7 +100,7 @@ module _ {s : List ℕ} {kind : Kind} {from : ℕ} {old buf : List ℕ} {at cur 
     on : Forward s cur t
     on = goes-on s kind cur t is accepted
 
-    pub listed-next : {n : ℕ} {y : List ℕ} → length y ≡ length buf → Puts (stepMost t) (stepLine kind t) at buf n y → Listed s kind from old y n (t .next .at)
+    pub listed-next : {n : ℕ} {y : List ℕ} → length y ≡ length buf → Puts (stepMost t) (stepLine s kind t) at buf n y → Listed s kind from old y n (t .next .at)
     unfolding readStep gathered stepLine stepMost if_then_else_
     listed-next {n} {y} keeps q = go (t .found) refl
       where
@@ -109,15 +109,15 @@ module _ {s : List ℕ} {kind : Kind} {from : ℕ} {old buf : List ℕ} {at cur 
             let x : ElementRead = elementReadAt s t in
             let e : reading noRefusal (t .next .at) (l .es ++ (x ∷ [])) ≡ readStep s kind (reading noRefusal cur (l .es)) = rw (← is, eq-eqb (t .refusal .number) 0 accepted, f) in
             let g = on in
-            let p : Puts (lineMost (t .element .logged)) (reportElementLine kind (t .element)) at buf n y = rw f at q in
+            let p : Puts (lineMost (t .element .logged)) (reportElementLine kind x) at buf n y = rw f at q in
             record {
               es = l .es ++ (x ∷ []);
               rest = again (length s - t .next .at) (l .rest) goes (omega (arith, g .on)) e;
               front = omega (arith, g .on, l .front);
               within = omega (arith, g .within);
               same = keeps ∙ l .same;
-              puts = rw (pieces-snoc (λ (r : ElementRead). reportElementLine kind (r .element)) 0 (l .es) x)
-                  (at-most (linesMost (t .next .at)) (omega (arith, g .on, l .front, line-most cur t (found-extent s kind cur t is f))) (both (l .puts) p));
+              puts = rw (pieces-snoc (λ (r : ElementRead). reportElementLine kind r) 0 (l .es) x)
+                  (at-most (linesMost (t .next .at)) (omega (arith, g .on, l .front, line-most s cur t (found-extent s kind cur t is f))) (both (l .puts) p));
             }
         go false f =
             let e : reading noRefusal (t .next .at) (l .es) ≡ readStep s kind (reading noRefusal cur (l .es)) = rw (← is, eq-eqb (t .refusal .number) 0 accepted, f) in

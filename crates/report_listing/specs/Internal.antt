@@ -6,13 +6,14 @@ use mathlib.Core.List.{List, []}
 use Rattle.laws.specs.Choice.{if_then_else_}
 use Rattle.octets.specs.declared.numbers.Kind.{Kind}
 use Rattle.report_reader.specs.declared.Step.{Step}
+use Rattle.report_reader.specs.Reader.{elementReadAt}
 use Rattle.report_listing.specs.Listing.{reportElementLine}
 
 -- ---- how many octets a text has at most
 
--- a transition, and the number of octets that are kept unread
+-- an event, and the number of octets that are kept unread
 abbrev pub eventMost : ℕ
-eventMost = 202
+eventMost = 220
 
 abbrev pub unreadMost : ℕ
 unreadMost = 26
@@ -34,8 +35,8 @@ linesMost at = 14 * (at - 3)
 
 -- ---- the line of what stands at a cursor
 
-unfoldable pub stepLine : Kind → Step → List ℕ
-stepLine kind t = if t .found then reportElementLine kind (t .element) else []
+unfoldable pub stepLine : List ℕ → Kind → Step → List ℕ
+stepLine s kind t = if t .found then reportElementLine kind (elementReadAt s t) else []
 
 unfoldable pub stepMost : Step → ℕ
 stepMost t = if t .found then lineMost (t .element .logged) else 0

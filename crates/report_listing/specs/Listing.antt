@@ -3,7 +3,8 @@
 use Prim.Native.Nat.{ℕ, _+_, _*_, _-_}
 use mathlib.Core.Bool.{not}
 use mathlib.Core.List.{List, [], _++_}
-use lib.ListN.{length, getD, drop}
+use mathlib.Core.Option.{Option, none, some}
+use lib.ListN.{length, getD, take, drop}
 use lib.Dec.{eqb, ltb}
 use Rattle.laws.specs.Choice.{if_then_else_}
 use Rattle.laws.specs.Buffers.{pieces}
@@ -14,9 +15,13 @@ use Rattle.octets.specs.Refusals.{refused, badFrameLength}
 use Rattle.octets.specs.Fields.{pairAt}
 use Rattle.octets.specs.Addresses.{addressAt}
 use Rattle.texts.specs.Text.{text, decimal, hexed, hexes, field, refusalLine, frameLine, elementHead}
-use Rattle.report_reader.specs.declared.Event.{Event}
+use Rattle.subelements.specs.Subelements.{tables}
+use Rattle.report_reader.specs.declared.decoders.TransitionReport.{TransitionReport}
+use Rattle.report_reader.specs.declared.decoders.RsnaReport.{RsnaReport}
+use Rattle.report_reader.specs.declared.decoders.PeerLinkReport.{PeerLinkReport}
 use Rattle.report_reader.specs.declared.Element.{Element}
 use Rattle.report_reader.specs.declared.Report.{Report}
+use Rattle.report_reader.specs.Decoders.{ReportedEvent, transitionReport, rsnaReport, peerLinkReport}
 use Rattle.report_reader.specs.Reader.{readReport, ElementRead, readElements}
 
 -- ---- an event
@@ -39,49 +44,81 @@ unfoldable pub timeText : List ℕ → List ℕ
 timeText time =
     dateText (pairAt time 7) (getD time 6 0) (getD time 5 0) ++ clockText (getD time 4 0) (getD time 3 0) (getD time 2 0) (pairAt time 0)
 
--- an address behind a name: `02:01:01:01:01:01`
-unfoldable pub addressText : List ℕ → List ℕ → List ℕ
-addressText name a = hexed name (getD a 0 0) ++ hexes (text ":") (drop 1 a)
+-- octets behind a name: `02:01:01:01:01:01`
+unfoldable pub colonText : List ℕ → List ℕ → List ℕ
+colonText name o = hexed name (getD o 0 0) ++ hexes (text ":") (drop 1 o)
 
 unfoldable pub signalsText : List ℕ → List ℕ
 signalsText signals =
     field " source-rcpi " (getD signals 0 0) ++ field " source-rsni " (getD signals 1 0) ++ field " target-rcpi " (getD signals 2 0) ++ field " target-rsni " (getD signals 3 0)
 
-unfoldable pub eventText : Event → List ℕ
-eventText e =
-    timeText (e .time) ++ addressText (text " source ") (e .source) ++ addressText (text " target ") (e .target)
+unfoldable pub transitionText : TransitionReport → List ℕ
+transitionText e =
+    timeText (e .time) ++ colonText (text " source ") (e .source) ++ colonText (text " target ") (e .target)
     ++ field " transition " (e .took .0)
     ++ field " reason " (e .reason)
     ++ field " result " (e .result)
     ++ signalsText (e .signals)
 
+-- "for EAP 254 ` vendor XX:XX:XX vendor-type XX:XX:XX:XX`": three octets behind the first, and four
+unfoldable pub vendorText : List ℕ → List ℕ
+vendorText method =
+    if eqb (getD method 0 0) 254 then colonText (text " vendor ") (take 3 (drop 1 method)) ++ colonText (text " vendor-type ") (drop 4 method)
+    else []
+
+-- "where an RSN element is there, ` rsn HEX`"
+unfoldable pub rsnText : List ℕ → ℕ → List ℕ
+rsnText rsn size = if eqb size 0 then [] else text " rsn " ++ hexes [] (take size rsn)
+
+unfoldable pub rsnaText : RsnaReport → List ℕ
+rsnaText e =
+    timeText (e .time) ++ colonText (text " target ") (e .target) ++ colonText (text " authentication ") (e .authentication)
+    ++ field " eap " (getD (e .method) 0 0)
+    ++ vendorText (e .method)
+    ++ field " result " (e .result)
+    ++ rsnText (e .rsn) (e .size)
+
+-- the connection time in seconds, three octets
+unfoldable pub peerLinkText : PeerLinkReport → List ℕ
+peerLinkText e =
+    timeText (e .time) ++ colonText (text " peer ") (e .peer)
+    ++ field " class " (e .class)
+    ++ field " channel " (e .channel)
+    ++ field " power " (e .power)
+    ++ field " connection " (pairAt (e .connection) 0 + 65536 * getD (e .connection) 2 0)
+    ++ field " peer-status " (e .status)
+
+unfoldable pub eventText : ReportedEvent → List ℕ
+eventText (transitionReport e) = transitionText e
+eventText (rsnaReport e) = rsnaText e
+eventText (peerLinkReport e) = peerLinkText e
+
 -- ---- an element
 
 -- "For status 0 of other event types the rest is kept unread."
 unfoldable pub unreadText : ℕ → ℕ → List ℕ
-unreadText ty n = if eqb ty 0 then [] else field " rest " n
+unreadText ty n = if ltb ty tables then [] else field " rest " n
 
-unfoldable pub eventTail : Element → List ℕ
-eventTail e =
-    if e .logged then eventText (e .event)
-    else if eqb (e .status) successful then unreadText (e .ty) (e .length)
-    else []
+-- what an event report has behind its status: the event, or how many octets are kept unread
+unfoldable pub eventTail : Option ReportedEvent → Element → List ℕ
+eventTail (some x) e = eventText x
+eventTail none e = if eqb (e .status) successful then unreadText (e .ty) (e .length) else []
 
-unfoldable pub tailText : Kind → Element → List ℕ
-tailText EventKind e = eventTail e
-tailText Diagnostic e = field " subs " (e .subs)
+unfoldable pub tailText : Kind → ElementRead → List ℕ
+tailText EventKind x = eventTail (x .event) (x .element)
+tailText Diagnostic x = field " subs " (x .element .subs)
 
 unfoldable pub headText : Kind → Element → List ℕ
 headText kind e = elementHead (reportId kind) (e .token) (e .ty) ++ field " status " (e .status)
 
 -- `element 79 token 5 type 0 status 0`, and what the element has behind its status
-unfoldable pub reportElementLine : Kind → Element → List ℕ
-reportElementLine kind e = headText kind e ++ tailText kind e ++ text "\n"
+unfoldable pub reportElementLine : Kind → ElementRead → List ℕ
+reportElementLine kind x = headText kind (x .element) ++ tailText kind x ++ text "\n"
 
 -- ---- a frame
 
 abbrev pub reportElementLines : Kind → List ElementRead → List ℕ
-reportElementLines kind es = pieces (λ (i : ℕ) (e : ElementRead). reportElementLine kind (e .element)) 0 es
+reportElementLines kind es = pieces (λ (i : ℕ) (x : ElementRead). reportElementLine kind x) 0 es
 
 -- a report that was read of a frame: the refusal, or the first line and one line for each element that the cursor hands out
 unfoldable pub reportListing : List ℕ → Report → List ℕ

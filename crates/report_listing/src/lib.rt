@@ -1,17 +1,26 @@
 // Report frames: the listing that the program `report` prints, whole, into an array that has room for
 // every one of them.
+use events::rsna_events::RSN_LENGTH;
 use octets::Kind;
 use octets::Refusal;
 use octets::address_at;
 use octets::causes;
+use octets::least;
 use octets::numbers;
 use octets::pair;
+use octets::pair_at;
 use octets::put;
+use octets::size;
 use report_reader::Cursor;
 use report_reader::Element;
-use report_reader::Event;
+use report_reader::PeerLinkReport;
+use report_reader::RsnaReport;
 use report_reader::Step;
+use report_reader::TransitionReport;
+use report_reader::peer_link_in;
 use report_reader::read_report;
+use report_reader::rsna_in;
+use report_reader::transition_in;
 use texts::put_element_head;
 use texts::put_frame;
 use texts::put_hex;
@@ -23,12 +32,15 @@ use texts::put_refusal;
 use texts::put_size;
 use texts::put_two;
 ghost use mathlib.Core.Path.{_≡_};
-ghost use Prim.Native.Nat.{_+_, _≤_};
-ghost use lib.ListN.{length};
+ghost use mathlib.Core.Bool.{true};
+ghost use Prim.Native.Nat.{_+_, _*_, _≤_, _<_};
+ghost use lib.ListN.{length, getD};
+ghost use Rattle.octets.specs.Fields.{pairAt};
 ghost use Rattle.laws.specs.Buffers.{wrote};
 ghost use Rattle.texts.specs.Text.{Puts, written, Within};
-ghost use Rattle.report_reader.specs.Reader.{readElements};
-ghost use Rattle.report_listing.specs.Listing.{timeField, dateText, clockText, timeText, addressText, signalsText, eventText, unreadText, eventTail, tailText, headText, reportElementLine, reportElementLines, frameListing, inputListing, listingMost};
+ghost use Rattle.report_reader.specs.Decoders.{decoded};
+ghost use Rattle.report_reader.specs.Reader.{elementRead, readElements};
+ghost use Rattle.report_listing.specs.Listing.{timeField, dateText, clockText, timeText, colonText, signalsText, transitionText, vendorText, rsnText, rsnaText, peerLinkText, eventText, unreadText, eventTail, tailText, headText, reportElementLine, reportElementLines, frameListing, inputListing, listingMost};
 ghost use Rattle.report_listing.specs.Internal.{eventMost, unreadMost, headMost, tailMost, lineMost, linesMost, stepLine, stepMost};
 
 // What the longest listing has at most: 52 octets for the first line, and 14 for each octet that the
@@ -86,12 +98,13 @@ fn put_time(buf: &mut [u8], at: usize, time: [u8; 9]) -> usize
     put_clock(buf, next, time[4], time[3], time[2], pair(time[0], time[1]))
 }
 
-// An address behind a name.
-fn put_address(buf: &mut [u8], at: usize, name: &[u8], a: [u8; 6]) -> usize
-    ensures { λ r. ⌜ Puts (length (now (name .entry)) + 17) (addressText (now (name .entry)) a) at (now (buf .entry)) r (now (buf .exit)) ⌝ }
+// Octets behind a name, with colons between them.
+fn put_colons(buf: &mut [u8], at: usize, name: &[u8], o: &[u8]) -> usize
+    requires { ⌜ 0 < length (now o) ⌝ }
+    ensures { λ r. ⌜ Puts (length (now (name .entry)) + 3 * length (now (o .entry))) (colonText (now (name .entry)) (now (o .entry))) at (now (buf .entry)) r (now (buf .exit)) ⌝ }
 {
-    let next = put_hex(buf, at, name, a[0]);
-    put_hexes(buf, next, b":", &a[1..])
+    let next = put_hex(buf, at, name, o[0]);
+    put_hexes(buf, next, b":", &o[1..])
 }
 
 fn put_signals(buf: &mut [u8], at: usize, signals: [u8; 4]) -> usize
@@ -103,20 +116,93 @@ fn put_signals(buf: &mut [u8], at: usize, signals: [u8; 4]) -> usize
     put_octet(buf, next, b" target-rsni ", signals[3])
 }
 
-fn put_event(buf: &mut [u8], at: usize, e: Event) -> usize
-    ensures { λ r. ⌜ Puts eventMost (eventText e) at (now (buf .entry)) r (now (buf .exit)) ⌝ }
+fn put_transition(buf: &mut [u8], at: usize, e: TransitionReport) -> usize
+    ensures { λ r. ⌜ Puts eventMost (transitionText e) at (now (buf .entry)) r (now (buf .exit)) ⌝ }
 {
     let time = e.time;
     let source = e.source;
     let target = e.target;
     let signals = e.signals;
     let next = put_time(buf, at, time);
-    let next = put_address(buf, next, b" source ", source);
-    let next = put_address(buf, next, b" target ", target);
+    let next = put_colons(buf, next, b" source ", &source);
+    let next = put_colons(buf, next, b" target ", &target);
     let next = put_pair(buf, next, b" transition ", e.took.0);
     let next = put_octet(buf, next, b" reason ", e.reason);
     let next = put_pair(buf, next, b" result ", e.result);
     put_signals(buf, next, signals)
+}
+
+// The vendor of an EAP method, where its first octet says that there is one.
+fn put_vendor(buf: &mut [u8], at: usize, method: [u8; 8]) -> usize
+    ensures { λ r. ⌜ Puts 42 (vendorText method) at (now (buf .entry)) r (now (buf .exit)) ⌝ }
+{
+    if method[0] != 254 {
+        return at;
+    }
+    let next = put_colons(buf, at, b" vendor ", &method[1..4]);
+    put_colons(buf, next, b" vendor-type ", &method[4..])
+}
+
+// The RSN element, where one is there.
+fn put_rsn(buf: &mut [u8], at: usize, rsn: [u8; RSN_LENGTH], size: usize) -> usize
+    ensures { λ r. ⌜ Puts 49 (rsnText rsn size) at (now (buf .entry)) r (now (buf .exit)) ⌝ }
+{
+    if size == 0 {
+        return at;
+    }
+    let n = least(size, RSN_LENGTH);
+    let next = put(buf, at, b" rsn ");
+    put_hexes(buf, next, b"", &rsn[..n])
+}
+
+fn put_rsna(buf: &mut [u8], at: usize, e: RsnaReport) -> usize
+    ensures { λ r. ⌜ Puts eventMost (rsnaText e) at (now (buf .entry)) r (now (buf .exit)) ⌝ }
+{
+    let time = e.time;
+    let target = e.target;
+    let authentication = e.authentication;
+    let method = e.method;
+    let rsn = e.rsn;
+    let next = put_time(buf, at, time);
+    let next = put_colons(buf, next, b" target ", &target);
+    let next = put_colons(buf, next, b" authentication ", &authentication);
+    let next = put_octet(buf, next, b" eap ", method[0]);
+    let next = put_vendor(buf, next, method);
+    let next = put_octet(buf, next, b" result ", e.result);
+    put_rsn(buf, next, rsn, e.size)
+}
+
+// A number of three octets.
+fn three(o: [u8; 3]) -> usize
+    ensures { λ r. ⌜ r ≡ pairAt o 0 + 65536 * getD o 2 0 ⌝ }
+{
+    (pair_at(&o, 0) as usize) + 65536 * size(&o, 2)
+}
+
+fn put_peer_link(buf: &mut [u8], at: usize, e: PeerLinkReport) -> usize
+    ensures { λ r. ⌜ Puts eventMost (peerLinkText e) at (now (buf .entry)) r (now (buf .exit)) ⌝ }
+{
+    let time = e.time;
+    let peer = e.peer;
+    let connection = e.connection;
+    let next = put_time(buf, at, time);
+    let next = put_colons(buf, next, b" peer ", &peer);
+    let next = put_octet(buf, next, b" class ", e.class);
+    let next = put_octet(buf, next, b" channel ", e.channel);
+    let next = put_octet(buf, next, b" power ", e.power);
+    let next = put_size(buf, next, b" connection ", three(connection));
+    put_octet(buf, next, b" peer-status ", e.status)
+}
+
+// The event of a type, from its octets.
+fn put_event(buf: &mut [u8], at: usize, ty: u8, o: &[u8]) -> usize
+    ensures { λ r. ⌜ Puts eventMost (eventText (decoded ty (now (o .entry)))) at (now (buf .entry)) r (now (buf .exit)) ⌝ }
+{
+    match ty {
+        0 => put_transition(buf, at, transition_in(o)),
+        1 => put_rsna(buf, at, rsna_in(o)),
+        2..=255 => put_peer_link(buf, at, peer_link_in(o)),
+    }
 }
 
 // The octets of other event types, kept unread.
@@ -124,18 +210,17 @@ fn put_unread(buf: &mut [u8], at: usize, ty: u8, n: usize) -> usize
     ensures { λ r. ⌜ Puts unreadMost (unreadText ty n) at (now (buf .entry)) r (now (buf .exit)) ⌝ }
 {
     match ty {
-        0 => at,
-        1..=255 => put_size(buf, at, b" rest ", n),
+        0..=2 => at,
+        3..=255 => put_size(buf, at, b" rest ", n),
     }
 }
 
 // What an event report has behind its status.
-fn put_event_tail(buf: &mut [u8], at: usize, e: Element) -> usize
-    ensures { λ r. ⌜ Puts (tailMost (e .logged)) (eventTail e) at (now (buf .entry)) r (now (buf .exit)) ⌝ }
+fn put_event_tail(buf: &mut [u8], at: usize, e: Element, o: &[u8]) -> usize
+    ensures { λ r. ⌜ Puts (tailMost (e .logged)) (eventTail (elementRead e (now (o .entry)) .event) e) at (now (buf .entry)) r (now (buf .exit)) ⌝ }
 {
     if e.logged {
-        let event = e.event;
-        return put_event(buf, at, event);
+        return put_event(buf, at, e.ty, o);
     }
     if e.status == numbers::SUCCESSFUL {
         return put_unread(buf, at, e.ty, e.length);
@@ -143,11 +228,11 @@ fn put_event_tail(buf: &mut [u8], at: usize, e: Element) -> usize
     at
 }
 
-fn put_tail(buf: &mut [u8], at: usize, kind: Kind, e: Element) -> usize
-    ensures { λ r. ⌜ Puts (tailMost (e .logged)) (tailText kind e) at (now (buf .entry)) r (now (buf .exit)) ⌝ }
+fn put_tail(buf: &mut [u8], at: usize, kind: Kind, e: Element, o: &[u8]) -> usize
+    ensures { λ r. ⌜ Puts (tailMost (e .logged)) (tailText kind (elementRead e (now (o .entry)))) at (now (buf .entry)) r (now (buf .exit)) ⌝ }
 {
     match kind {
-        Kind::Event => put_event_tail(buf, at, e),
+        Kind::Event => put_event_tail(buf, at, e, o),
         Kind::Diagnostic => put_size(buf, at, b" subs ", e.subs),
     }
 }
@@ -159,24 +244,27 @@ fn put_head(buf: &mut [u8], at: usize, kind: Kind, e: Element) -> usize
     put_octet(buf, next, b" status ", e.status)
 }
 
-// The line of an element.
-fn put_element(buf: &mut [u8], at: usize, kind: Kind, e: Element) -> usize
-    ensures { λ r. ⌜ Puts (lineMost (e .logged)) (reportElementLine kind e) at (now (buf .entry)) r (now (buf .exit)) ⌝ }
+// The line of an element, with the octets behind its status.
+fn put_element(buf: &mut [u8], at: usize, kind: Kind, e: Element, o: &[u8]) -> usize
+    ensures { λ r. ⌜ Puts (lineMost (e .logged)) (reportElementLine kind (elementRead e (now (o .entry)))) at (now (buf .entry)) r (now (buf .exit)) ⌝ }
 {
     let next = put_head(buf, at, kind, e);
-    let next = put_tail(buf, next, kind, e);
+    let next = put_tail(buf, next, kind, e, o);
     put(buf, next, b"\n")
 }
 
 // ---- a frame
 
 // The line of what stands at a cursor; elements of another ID have none.
-fn put_step(buf: &mut [u8], at: usize, kind: Kind, step: Step) -> usize
-    ensures { λ r. ⌜ Puts (stepMost step) (stepLine kind step) at (now (buf .entry)) r (now (buf .exit)) ⌝ }
+fn put_step(buf: &mut [u8], at: usize, s: &[u8], kind: Kind, step: Step) -> usize
+    requires { ⌜ (step .found ≡ true → step .rest + step .element .length ≤ length (now s)) ⌝ }
+    ensures { λ r. ⌜ Puts (stepMost step) (stepLine (now (s .entry)) kind step) at (now (buf .entry)) r (now (buf .exit)) ⌝ }
 {
     if step.found {
         let element = step.element;
-        return put_element(buf, at, kind, element);
+        let rest = step.rest;
+        let end = rest + element.length;
+        return put_element(buf, at, kind, element, &s[rest..end]);
     }
     at
 }
@@ -190,7 +278,7 @@ fn put_elements(buf: &mut [u8], from: usize, s: &[u8], kind: Kind) -> usize
     let mut cursor = Cursor::first();
     while cursor.at < s.len() {
         let step = cursor.next(s, kind);
-        at = put_step(buf, at, kind, step);
+        at = put_step(buf, at, s, kind, step);
         let next = step.next;
         cursor = next;
     }

@@ -1,13 +1,13 @@
--- Laws of the reader: a transition is read of the part that it stands in; a step that is not refused moves on, and not past the end; its verdict says the rest of it; where a transition stands, an element was found, and how many octets it takes; a turn of the validating loop.
+-- Laws of the reader: a time is read of the part that it stands in; an event's body is not shorter than its fields; a step that is not refused moves on, and not past the end; its verdict says the rest of it; where an event stands, an element was found, and how many octets it takes; a turn of the validating loop.
 -- Assumes nothing.
 use Prim.Native.Nat.{ℕ, _+_, _-_, _≤_, _<_}
 use mathlib.Core.Path.{_≡_, refl, sym, ap, _∙_}
-use mathlib.Core.Bool.{Bool, true, false, not}
+use mathlib.Core.Bool.{Bool, true, false, not, _||_}
 use mathlib.Core.List.{List, [], _∷_}
 use native.Mathlib.Nat.{add-zero}
 use native.Mathlib.Omega.{arith}
 use lib.ListN.{length, getD, take, drop, length-append}
-use lib.Dec.{eqb}
+use lib.Dec.{eqb, ltb}
 use borrow.Author.Tests.{eqb-true, eqb-false, ltb-false, not-true, not-false}
 use Rattle.laws.specs.Choice.{if_then_else_}
 use Rattle.laws.proofs.Walk.{Rest, start, last, again, done, go-on, stop-refused, stop-end}
@@ -20,30 +20,46 @@ use Rattle.octets.specs.Times.{timeAt}
 use Rattle.octets.proofs.PlaceLaws.{octets-within}
 use Rattle.octets.proofs.ElementLaws.{piece-ends}
 use Rattle.subelements.specs.declared.Subelements.{Subelements}
-use Rattle.subelements.specs.Subelements.{walk}
+use Rattle.subelements.specs.Subelements.{tables, walk}
 use Rattle.events.specs.Transitions.{transitionLength}
+use Rattle.events.specs.RsnaEvents.{rsnLength, rsnaLength}
+use Rattle.events.specs.PeerLinks.{peerLinkLength}
+use Rattle.events.proofs.RsnaLaws.{method-some}
 use Rattle.report_reader.specs.declared.Step.{Step}
 use Rattle.report_reader.specs.declared.Verdict.{Verdict}
 use Rattle.report_reader.specs.declared.Walk.{Walk}
-use Rattle.report_reader.specs.Reader.{eventAt, refusedStep, skippedStep, foundStep, plainStep, loggedStep, bareStep, transitionStep, eventStep, walkedStep, diagnosticStep, kindStep, ownReportStep, stepAt, elementReadAt, Reading, reading, gathered, unread, readStep, readElements}
-use Rattle.report_reader.specs.Internal.{verdictOf, walkOf, transitionAt, foundElement, Fits, stepOf}
+use Rattle.report_reader.specs.Reader.{refusedStep, skippedStep, foundStep, plainStep, loggedStep, bareStep, reportLength, isRsnaLength, isEventLength, typedStep, eventStep, walkedStep, diagnosticStep, kindStep, ownReportStep, stepAt, elementReadAt, Reading, reading, gathered, unread, readStep, readElements}
+use Rattle.report_reader.specs.Internal.{verdictOf, walkOf, foundElement, Fits, stepOf}
 
--- ---- a transition, read of the part that it stands in
+-- ---- a time, read of the part that it stands in
 
 module _ (s : List ℕ) (at m : ℕ) where
   pub time-part : 9 ≤ m → timeAt (take m (drop at s)) 0 ≡ timeAt s at
   time-part h = octets-within s m at 9 0 h ∙ ap (timeAt s) (add-zero at)
 
-  pub event-part : 30 ≤ m → eventAt (take m (drop at s)) 0 ≡ eventAt s at
-  unfolding eventAt
-  event-part h = rw (time-part (omega arith), octets-within s m at transitionLength 9 (omega arith))
+-- ---- an event's body
+
+rsna-least : (first n : ℕ) → isRsnaLength first n ≡ true → 24 ≤ n
+rsna-least first n h = go (eqb n (reportLength (rsnaLength first))) (eqb n (reportLength (rsnaLength first + rsnLength))) refl refl h
+  where
+    go : (x y : Bool) → eqb n (reportLength (rsnaLength first)) ≡ x → eqb n (reportLength (rsnaLength first + rsnLength)) ≡ y → (x || y) ≡ true → 24 ≤ n
+    go true y p q e = omega (arith, eqb-true n (reportLength (rsnaLength first)) p, method-some first)
+    go false true p q e = omega (arith, eqb-true n (reportLength (rsnaLength first + rsnLength)) q, method-some first)
+    go false false p q e = never e
+
+pub event-least : (s : List ℕ) (at n ty : ℕ) → isEventLength s at n ty ≡ true → 24 ≤ n
+unfolding isEventLength
+event-least s at n ty =
+    let P : Bool → Type 0 = λ (b : Bool). b ≡ true → 24 ≤ n in
+    either P _ _ _ (λ _ e. omega (arith, eqb-true n (reportLength transitionLength) e))
+    (λ _. either P _ _ _ (λ _. rsna-least _ n) (λ _ e. omega (arith, eqb-true n (reportLength peerLinkLength) e)))
 
 -- ---- an event report of length 3 is plain
 
 module _ (s : List ℕ) (at : ℕ) where
   plain-event : eventStep s at 3 ≡ plainStep s at 3 0
-  unfolding eventStep bareStep transitionStep if_then_else_
-  plain-event = go (eqb (getD s (at + 4) 0) 0) (eqb (getD s (at + 3) 0) 0)
+  unfolding eventStep bareStep typedStep if_then_else_
+  plain-event = go (eqb (getD s (at + 4) 0) 0) (ltb (getD s (at + 3) 0) tables)
     where
       go : (a b : Bool) → (if not a then plainStep s at 3 0 else if b then plainStep s at 3 0 else plainStep s at 3 0) ≡ plainStep s at 3 0
       go true true = refl
@@ -53,29 +69,29 @@ module _ (s : List ℕ) (at : ℕ) where
   pub short-event : {n : ℕ} → n ≡ 3 → eventStep s at n ≡ plainStep s at n 0
   short-event e = rw e plain-event
 
--- ---- a step is one of four: refused, passed over, with no transition, or with one
+-- ---- a step is one of four: refused, passed over, with no event, or with one
 
 data Stands (s : List ℕ) (at : ℕ) : Step → Type 0 where
   is-refused : (n p : ℕ) → 0 < n → Stands s at (refusedStep n p)
   is-skipped : (e : ℕ) → at < e → e ≤ length s → Stands s at (skippedStep e)
   is-plain : (n subs : ℕ) → 3 ≤ n → at + 2 + n ≤ length s → Stands s at (plainStep s at n subs)
-  is-logged : at + 35 ≤ length s → Stands s at (loggedStep s at)
+  is-logged : (n : ℕ) → 24 ≤ n → at + 2 + n ≤ length s → Stands s at (loggedStep s at n)
 
 module _ (s : List ℕ) (at n : ℕ) (few : 3 ≤ n) (h : at + 2 + n ≤ length s) where
   bare-stands : Stands s at (bareStep s at n)
   unfolding bareStep
   bare-stands = either (Stands s at) _ _ _ (λ _. is-plain n 0 few h) (λ _. is-refused 17 at (omega arith))
 
-  transition-stands : Stands s at (transitionStep s at n)
-  unfolding transitionStep
-  transition-stands =
+  typed-stands : Stands s at (typedStep s at n)
+  unfolding typedStep
+  typed-stands =
       either (Stands s at) _ _ _ (λ _. is-plain n 0 few h)
       (λ _. either (Stands s at) _ _ _ (λ _. is-refused 17 at (omega arith))
-      (λ p. either (Stands s at) _ _ _ (λ _. is-refused 14 at (omega arith)) (λ _. is-logged (omega (arith, eqb-true n 33 (not-false _ p))))))
+      (λ p. either (Stands s at) _ _ _ (λ _. is-refused 14 at (omega arith)) (λ _. is-logged n (event-least s at n _ (not-false _ p)) h)))
 
   event-stands : Stands s at (eventStep s at n)
   unfolding eventStep
-  event-stands = either (Stands s at) _ _ _ (λ _. bare-stands) (λ _. either (Stands s at) _ _ _ (λ _. transition-stands) (λ _. is-plain n 0 few h))
+  event-stands = either (Stands s at) _ _ _ (λ _. bare-stands) (λ _. either (Stands s at) _ _ _ (λ _. typed-stands) (λ _. is-plain n 0 few h))
 
   walked-stands : (w : Subelements) → Stands s at (walkedStep s at n w)
   unfolding walkedStep
@@ -89,7 +105,7 @@ module _ (s : List ℕ) (at n : ℕ) (few : 3 ≤ n) (h : at + 2 + n ≤ length 
   kind-stands : (kind : Kind) → Stands s at (kindStep kind s at n)
   unfolding diagnosticStep
   kind-stands Event = event-stands
-  kind-stands Diagnostic = walked-stands (walk s 0 (at + 5) (at + 2 + n))
+  kind-stands Diagnostic = walked-stands (walk s tables (at + 5) (at + 2 + n))
 
 own-stands : (s : List ℕ) (kind : Kind) (at n : ℕ) → at + 2 + n ≤ length s → Stands s at (ownReportStep s kind at n)
 unfolding ownReportStep
@@ -116,7 +132,7 @@ unfolding plainStep loggedStep
 goes s at (is-refused n p h) z = absurd (omega arith)
 goes s at (is-skipped e on within) z = record { on = on; within = within }
 goes s at (is-plain n subs few h) z = record { on = omega arith; within = h }
-goes s at (is-logged h) z = record { on = omega arith; within = h }
+goes s at (is-logged n few h) z = record { on = omega arith; within = h }
 
 pub step-goes : (s : List ℕ) (kind : Kind) (at : ℕ) → stepAt s kind at .refusal .number ≡ 0 → Forward s at (stepAt s kind at)
 step-goes s kind at = goes s at (stands s kind at)
@@ -128,18 +144,18 @@ goes-on s kind at t e z = rw e (step-goes s kind at (rw e at z))
 -- ---- and its verdict says the rest of it
 
 stands-told : (s : List ℕ) (at : ℕ) {t : Step} → Stands s at t → stepOf s at (verdictOf t) ≡ t
-unfolding stepOf foundElement transitionAt verdictOf plainStep loggedStep if_then_else_
+unfolding stepOf foundElement verdictOf plainStep loggedStep if_then_else_
 stands-told s at (is-refused n p h) = refl
 stands-told s at (is-skipped e on within) = refl
 stands-told s at (is-plain n subs few h) = let e : at + 2 + n - (at + 5) ≡ n - 3 = omega arith in rw e
-stands-told s at (is-logged h) = let e : at + 35 - (at + 5) ≡ 30 = omega arith in rw e
+stands-told s at (is-logged n few h) = let e : at + 2 + n - (at + 5) ≡ n - 3 = omega arith in rw e
 
 stands-fits : (s : List ℕ) (at : ℕ) {t : Step} → Stands s at t → verdictOf t .found ≡ true → Fits s at (verdictOf t)
 unfolding verdictOf plainStep loggedStep
 stands-fits s at (is-refused n p h) e = never e
 stands-fits s at (is-skipped n on within) e = never e
-stands-fits s at (is-plain n subs few h) e = record { head = omega arith; within = h; event = never }
-stands-fits s at (is-logged h) e = record { head = omega arith; within = h; event = λ _. h }
+stands-fits s at (is-plain n subs few h) e = record { head = omega arith; within = h }
+stands-fits s at (is-logged n few h) e = record { head = omega arith; within = h }
 
 module _ (s : List ℕ) (kind : Kind) (at : ℕ) where
   pub step-told : stepOf s at (verdictOf (stepAt s kind at)) ≡ stepAt s kind at
@@ -148,32 +164,33 @@ module _ (s : List ℕ) (kind : Kind) (at : ℕ) where
   pub step-fits : {v : Verdict} → v ≡ verdictOf (stepAt s kind at) → v .found ≡ true → Fits s at v
   step-fits e f = rw e (stands-fits s at (stands s kind at) (rw e at f))
 
--- ---- where a transition stands, an element was found
+-- ---- where an event stands, an element was found
 
 stands-found : (s : List ℕ) (at : ℕ) {t : Step} → Stands s at t → t .element .logged ≡ true → t ≡ foundStep (t .element) (t .rest) (t .next .at)
 unfolding plainStep loggedStep
 stands-found s at (is-refused n p h) e = never e
 stands-found s at (is-skipped n on within) e = never e
 stands-found s at (is-plain n subs few h) e = refl
-stands-found s at (is-logged h) e = refl
+stands-found s at (is-logged n few h) e = refl
 
 pub logged-found : (s : List ℕ) (kind : Kind) (at : ℕ) (t : Step) → t ≡ stepAt s kind at → t .element .logged ≡ true → t ≡ foundStep (t .element) (t .rest) (t .next .at)
 logged-found s kind at t e = rw e (stands-found s at (stands s kind at))
 
--- ---- and an element that was found takes five octets at least, one with a transition 35
+-- ---- and an element that was found takes five octets at least, one with an event 26, and those behind its status stand in the frame
 
-pub record Extent (at : ℕ) (t : Step) : Type 0 where
+pub record Extent (s : List ℕ) (at : ℕ) (t : Step) : Type 0 where
   pub least : at + 5 ≤ t .next .at
-  pub event : t .element .logged ≡ true → t .next .at ≡ at + 35
+  pub within : t .rest + t .element .length ≤ length s
+  pub event : t .element .logged ≡ true → at + 26 ≤ t .next .at
 
-stands-extends : (s : List ℕ) (at : ℕ) {t : Step} → Stands s at t → t .found ≡ true → Extent at t
+stands-extends : (s : List ℕ) (at : ℕ) {t : Step} → Stands s at t → t .found ≡ true → Extent s at t
 unfolding plainStep loggedStep
 stands-extends s at (is-refused n p h) e = never e
 stands-extends s at (is-skipped n on within) e = never e
-stands-extends s at (is-plain n subs few h) e = record { least = omega arith; event = never }
-stands-extends s at (is-logged h) e = record { least = omega arith; event = λ _. refl }
+stands-extends s at (is-plain n subs few h) e = record { least = omega arith; within = omega arith; event = never }
+stands-extends s at (is-logged n few h) e = record { least = omega arith; within = omega arith; event = λ _. omega arith }
 
-pub found-extent : (s : List ℕ) (kind : Kind) (at : ℕ) (t : Step) → t ≡ stepAt s kind at → t .found ≡ true → Extent at t
+pub found-extent : (s : List ℕ) (kind : Kind) (at : ℕ) (t : Step) → t ≡ stepAt s kind at → t .found ≡ true → Extent s at t
 found-extent s kind at t e f = rw e (stands-extends s at (stands s kind at) (rw e at f))
 
 -- ---- the reading's step moves on too, and its position bounds the number of elements

@@ -1,2 +1,4 @@
+pub mod DecoderLaws
 pub mod Laws
+pub mod DecodersBack
 pub mod RoundTrip

@@ -4,12 +4,13 @@ use Prim.Native.Nat.{ℕ, _+_, _-_, _≤_, _<_}
 use mathlib.Core.Path.{_≡_, refl, sym, ap, _∙_}
 use mathlib.Core.Bool.{true, false}
 use mathlib.Core.List.{List, [], _∷_, _++_, map, map-append, append-assoc, append-nil}
+use mathlib.Core.Option.{some}
+use lib.Dec.{ltb}
 use lib.ListN.{length, getD, drop, length-append, length-map}
-use borrow.Author.Tests.{le-ltb, le-leb, ne-eqb, eq-eqb}
+use borrow.Author.Tests.{le-ltb, ne-eqb, eq-eqb}
 use native.Mathlib.Omega.{arith}
 use Rattle.laws.specs.Members.{All}
 use Rattle.laws.specs.Choice.{if_then_else_}
-use Rattle.units.specs.Time.{age, tusOf}
 use Rattle.laws.specs.Buffers.{pieces}
 use Rattle.laws.proofs.Walk.{Rest, start, again, done, go-on, stop-end}
 use Rattle.laws.proofs.Parts.{stands-at, stands-first, stands-length, stands-behind}
@@ -26,17 +27,16 @@ use Rattle.octets.proofs.ElementLaws.{piece-stands}
 use Rattle.octets.proofs.PlaceLaws.{octets-stand}
 use Rattle.octets.proofs.FrameLaws.{head-accepted, head-kind}
 use Rattle.subelements.specs.declared.Subelements.{Subelements}
-use Rattle.subelements.specs.Subelements.{noFilter, wholeStep, subelementStep, walk}
+use Rattle.subelements.specs.Subelements.{tables, noFilter, wholeStep, subelementStep, walk}
+use Rattle.subelements.proofs.Tables.{no-length}
 use Rattle.subelements.specs.Subelements.{moreSubelements as moreSubs}
-use Rattle.events.specs.declared.Transition.{Transition}
-use Rattle.events.specs.Transitions.{transitionLength, transitionBodyAt, sourceOf, targetOf, tookOf, reasonOf, resultOf, signalsOf, bodyOf, entryOf}
-use Rattle.events.proofs.TransitionLaws.{body-length, source-back, target-back, took-back, reason-back, result-back, signals-back}
-use Rattle.events.specs.Loggings.{Logging, entryFor, TransitionLengths}
-use Rattle.events.specs.declared.Entry.{Entry}
+use Rattle.events.specs.Loggings.{eventType, eventTime, eventBody, goodRsnElement, entryWith, Logging, EventLengths}
+use Rattle.events.proofs.LoggingLaws.{body-back}
 use Rattle.reports.specs.Reports.{reportElement, eventElement}
-use Rattle.report_reader.specs.declared.Event.{Event as Fields}
-use Rattle.report_reader.specs.Reader.{eventAt, plainElement, loggedElement, foundStep, plainStep, loggedStep, transitionStep, eventStep, walkedStep, diagnosticStep, ownReportStep, stepAt, reportOf, readReport, reading, gathered, unread, readStep, readElements}
-use Rattle.report_reader.specs.Contents.{Content, statusOnly, loggedEvent, keptUnread, withSubelements, Valid, contentOctets, contentFrame, reported, contentRead, ReportRoundTrip}
+use Rattle.report_reader.specs.Decoders.{ReportedEvent}
+use Rattle.report_reader.specs.Reader.{plainElement, loggedElement, foundStep, plainStep, loggedStep, reportLength, isEventLength, typedStep, eventStep, walkedStep, diagnosticStep, ownReportStep, stepAt, elementRead, reportOf, readReport, reading, gathered, unread, readStep, readElements}
+use Rattle.report_reader.specs.Contents.{Content, statusOnly, loggedEvent, keptUnread, withSubelements, Valid, contentOctets, contentFrame, contentRead, ReportRoundTrip}
+use Rattle.report_reader.proofs.DecodersBack.{time-nine, decoded-back, typed, length-fits}
 use Rattle.report_reader.proofs.Laws.{short-event}
 
 -- ---- subelements that are walked for their edges
@@ -44,14 +44,14 @@ use Rattle.report_reader.proofs.Laws.{short-event}
 atSubs : ℕ → ℕ → Subelements
 atSubs at n = record { refusal = noRefusal; at = at; count = n; filter = noFilter }
 
-sub-passes : (s : List ℕ) (end at n id : ℕ) (b r : List ℕ) → drop at s ≡ framed id b ++ r → at + 2 + length b ≤ end → subelementStep s 0 end (atSubs at n) ≡ atSubs (at + 2 + length b) (n + 1)
+sub-passes : (s : List ℕ) (end at n id : ℕ) (b r : List ℕ) → drop at s ≡ framed id b ++ r → at + 2 + length b ≤ end → subelementStep s tables end (atSubs at n) ≡ atSubs (at + 2 + length b) (n + 1)
 unfolding subelementStep wholeStep if_then_else_ atSubs
 sub-passes s end at n id b r h fits =
-    rw (piece-stands s at end id b r h fits, ne-eqb (at + 2 + length b) 0 (λ z. absurd (omega arith)), le-leb 0 (getD s at 0) (omega arith))
+    rw (piece-stands s at end id b r h fits, ne-eqb (at + 2 + length b) 0 (λ z. absurd (omega arith)), no-length tables (getD s at 0) (getD s (at + 2) 0) refl)
 
 module _ (s : List ℕ) (end : ℕ) (whole : Subelements) where
   abbrev SubsLeft : ℕ → List Subelement → Type 0
-  SubsLeft at front = Rest (moreSubs end) (subelementStep s 0 end) whole (end - at) (atSubs at (length front))
+  SubsLeft at front = Rest (moreSubs end) (subelementStep s tables end) whole (end - at) (atSubs at (length front))
 
   sub-left : (front : List Subelement) (p : Subelement) (at : ℕ) (r : List ℕ) → Unit {0} → drop at s ≡ framed (p .id) (p .octets) ++ r → at + length (framed (p .id) (p .octets)) ≤ end
       → SubsLeft at front → SubsLeft (at + length (framed (p .id) (p .octets))) (front ++ (p ∷ []))
@@ -67,11 +67,11 @@ unfolding Each
 all-fine front [] = tt
 all-fine front (p ∷ ps) = (tt, all-fine (front ++ (p ∷ [])) ps)
 
-subelements-back : (s : List ℕ) (at end : ℕ) (ps : List Subelement) (r : List ℕ) → drop at s ≡ subelements ps ++ r → at + length (subelements ps) ≡ end → walk s 0 at end ≡ atSubs end (length ps)
+subelements-back : (s : List ℕ) (at end : ℕ) (ps : List Subelement) (r : List ℕ) → drop at s ≡ subelements ps ++ r → at + length (subelements ps) ≡ end → walk s tables at end ≡ atSubs end (length ps)
 unfolding walk subelements atSubs
 subelements-back s at end ps r h ends =
     sym (done
-    (along (λ _ p. framed (p .id) (p .octets)) s end (λ _ _. Unit {0}) (SubsLeft s end (walk s 0 at end)) (sub-left s end (walk s 0 at end)) ps [] at 0 r refl (all-fine [] ps) h ends
+    (along (λ _ p. framed (p .id) (p .octets)) s end (λ _ _. Unit {0}) (SubsLeft s end (walk s tables at end)) (sub-left s end (walk s tables at end)) ps [] at 0 r refl (all-fine [] ps) h ends
     (start _ _ end _ _ (omega arith)))
     (stop-end 0 end end refl (omega arith)))
 
@@ -125,41 +125,17 @@ module _ (s : List ℕ) (kind : Kind) (at token ty status : ℕ) (rest r : List 
       let m : length body - 3 ≡ length rest = omega arith in
       rw (token-there, ty-there, status-there, m, end-there)
 
--- ---- a logged transition that stands at a position: each field as logging took it, and the transition time across the rollover
-
-event-fields : (s : List ℕ) (at : ℕ) (body : List ℕ) (e : Fields) → transitionBodyAt s (at + 9) ≡ body → timeAt s at ≡ e .time → sourceOf body ≡ e .source → targetOf body ≡ e .target
-    → tookOf body ≡ e .took .0 → reasonOf body ≡ e .reason → resultOf body ≡ e .result → signalsOf body ≡ e .signals → eventAt s at ≡ e
-unfolding eventAt
-event-fields s at body e there a b c d f g h = rw (there, a, b, c, d, f, g, h)
-
-transition-back : (s : List ℕ) (at : ℕ) (x : Logging) (r : List ℕ) → TransitionLengths (x .transition) → drop at s ≡ (entryFor x .time ++ entryFor x .body) ++ r
-    → eventAt s at ≡ reported x
-unfolding entryOf reported
-transition-back s at x r w h =
-    let t : Transition = x .transition in
-    let tus : ℕ = tusOf (age (x .reading) (t .departure .0)) in
-    let body : List ℕ = bodyOf t tus in
-    let at-time : drop at s ≡ t .time ++ (body ++ r) = h ∙ append-assoc (t .time) body r in
-    let at-body : drop (at + 9) s ≡ body ++ r = stands-behind s at (t .time) _ at-time (at + 9) (omega (arith, w .time)) in
-    event-fields s at body (reported x) (octets-stand s (at + 9) transitionLength body r (body-length t tus w) at-body)
-    (octets-stand s at 9 (t .time) _ (w .time) at-time)
-    (source-back t tus w)
-    (target-back t tus w)
-    (took-back t tus w)
-    (reason-back t tus w)
-    (result-back t tus w)
-    (signals-back t tus w)
-
 -- ---- one element
 
 module _ (s : List ℕ) (at : ℕ) where
-  kept-event : (n : ℕ) → getD s (at + 4) 0 ≡ 0 → (getD s (at + 3) 0 ≡ 0 → ⊥) → eventStep s at n ≡ plainStep s at n 0
+  kept-event : (n : ℕ) → getD s (at + 4) 0 ≡ 0 → tables ≤ getD s (at + 3) 0 → eventStep s at n ≡ plainStep s at n 0
   unfolding eventStep if_then_else_
-  kept-event n e other = rw (e, ne-eqb (getD s (at + 3) 0) 0 other)
+  kept-event n e other = rw (e, le-ltb (getD s (at + 3) 0) tables other)
 
-  logged-event : (n : ℕ) → n ≡ 33 → getD s (at + 4) 0 ≡ 0 → getD s (at + 3) 0 ≡ 0 → goodTime (timeAt s (at + 5)) ≡ true → eventStep s at n ≡ loggedStep s at
-  unfolding eventStep transitionStep if_then_else_
-  logged-event n m e f good = rw (e, f, m, good)
+  logged-event : (n ty : ℕ) → (n ≡ 3 → ⊥) → getD s (at + 4) 0 ≡ 0 → getD s (at + 3) 0 ≡ ty → ltb ty tables ≡ true → isEventLength s at n ty ≡ true → goodTime (timeAt s (at + 5)) ≡ true
+      → eventStep s at n ≡ loggedStep s at n
+  unfolding eventStep typedStep if_then_else_
+  logged-event n ty m e f t k good = rw (e, f, t, ne-eqb n 3 m, k, good)
 
   own-event : (n : ℕ) → 3 ≤ n → getD s (at + 4) 0 ≤ 4 → ownReportStep s Event at n ≡ eventStep s at n
   unfolding ownReportStep if_then_else_
@@ -169,10 +145,11 @@ module _ (s : List ℕ) (at : ℕ) where
 record Found (s : List ℕ) (kind : Kind) (at : ℕ) (x : Content kind) : Type 0 where
   step : stepAt s kind at ≡ foundStep (contentRead kind x .element) (at + 5) (at + length (contentOctets kind x))
   behind : octetsAt s (at + 5) (contentRead kind x .element .length) ≡ contentRead kind x .behind
+  decodes : elementRead (contentRead kind x .element) (contentRead kind x .behind) ≡ contentRead kind x
 
 module _ (s : List ℕ) (at : ℕ) (r : List ℕ) where
   bare-event : (token ty status : ℕ) → status ≤ 4 → drop at s ≡ contentOctets Event (statusOnly token ty status) ++ r → Found s Event at (statusOnly token ty status)
-  unfolding contentOctets octetsAt
+  unfolding contentOctets octetsAt if_then_else_
   bare-event token ty status few h = record {
     step =
         own-there s Event at token ty status [] r h
@@ -180,44 +157,56 @@ module _ (s : List ℕ) (at : ℕ) (r : List ℕ) where
         ∙ short-event s at refl
         ∙ plain-there s Event at token ty status [] r h 0;
     behind = refl;
+    decodes = refl;
   }
 
-  kept-back : (token ty : ℕ) (o : List ℕ) → (ty ≡ 0 → ⊥) → drop at s ≡ contentOctets Event (keptUnread token ty o) ++ r → Found s Event at (keptUnread token ty o)
-  unfolding contentOctets
+  kept-back : (token ty : ℕ) (o : List ℕ) → tables ≤ ty → drop at s ≡ contentOctets Event (keptUnread token ty o) ++ r → Found s Event at (keptUnread token ty o)
+  unfolding contentOctets if_then_else_
   kept-back token ty o other h = record {
     step =
         own-there s Event at token ty 0 o r h
         ∙ own-event s at (length (token ∷ ty ∷ 0 ∷ o)) (omega arith) (omega (arith, status-there s Event at token ty 0 o r h))
-        ∙ kept-event s at (length (token ∷ ty ∷ 0 ∷ o)) (status-there s Event at token ty 0 o r h) (λ z. other (sym (ty-there s Event at token ty 0 o r h) ∙ z))
+        ∙ kept-event s at (length (token ∷ ty ∷ 0 ∷ o)) (status-there s Event at token ty 0 o r h) (omega (arith, ty-there s Event at token ty 0 o r h, other))
         ∙ plain-there s Event at token ty 0 o r h 0;
     behind = behind-there s Event at token ty 0 o r h;
+    decodes = refl;
   }
 
-  -- nine octets of time and 21 of transition
-  logged-back : (token : ℕ) (time body : List ℕ) → length time ≡ 9 → length body ≡ 21 → goodTime time ≡ true → drop at s ≡ reportElement Event token 0 0 (time ++ body) ++ r
-      → stepAt s Event at ≡ foundStep (loggedElement token 0 0 (eventAt s (at + 5))) (at + 5) (at + length (reportElement Event token 0 0 (time ++ body)))
+  -- nine octets of time, and a body
+  logged-back : (token ty : ℕ) (time body : List ℕ) → length time ≡ 9 → ltb ty tables ≡ true → goodTime time ≡ true → drop at s ≡ reportElement Event token ty 0 (time ++ body) ++ r
+      → isEventLength s at (reportLength (length body)) ty ≡ true
+      → stepAt s Event at ≡ foundStep (loggedElement token ty 0 (length (time ++ body))) (at + 5) (at + length (reportElement Event token ty 0 (time ++ body)))
   unfolding loggedStep
-  logged-back token time body lt lb good h =
+  logged-back token ty time body nine tabled good h long =
       let o : List ℕ = time ++ body in
-      let l : length o ≡ 30 = length-append time body ∙ omega arith in
-      let n : at + 35 ≡ at + length (reportElement Event token 0 0 o) = omega (arith, end-there s Event at token 0 0 o r h) in
-      let t : timeAt s (at + 5) ≡ time = octets-stand s (at + 5) 9 time (body ++ r) lt (rest-there s Event at token 0 0 o r h ∙ append-assoc time body r) in
-      own-there s Event at token 0 0 o r h
-      ∙ own-event s at (length (token ∷ 0 ∷ 0 ∷ o)) (omega arith) (omega (arith, status-there s Event at token 0 0 o r h))
-      ∙ logged-event s at (length (token ∷ 0 ∷ 0 ∷ o)) (omega arith) (status-there s Event at token 0 0 o r h) (ty-there s Event at token 0 0 o r h) (rw t good)
-      ∙ rw (n, token-there s Event at token 0 0 o r h, ty-there s Event at token 0 0 o r h, status-there s Event at token 0 0 o r h)
+      let l : length o ≡ 9 + length body = length-append time body ∙ omega (arith, nine) in
+      let n : length (token ∷ ty ∷ 0 ∷ o) ≡ reportLength (length body) = omega (arith, l) in
+      let m : length (token ∷ ty ∷ 0 ∷ o) - 3 ≡ length o = omega arith in
+      let t : timeAt s (at + 5) ≡ time = octets-stand s (at + 5) 9 time (body ++ r) nine (rest-there s Event at token ty 0 o r h ∙ append-assoc time body r) in
+      own-there s Event at token ty 0 o r h
+      ∙ own-event s at (length (token ∷ ty ∷ 0 ∷ o)) (omega arith) (omega (arith, status-there s Event at token ty 0 o r h))
+      ∙ logged-event s at (length (token ∷ ty ∷ 0 ∷ o)) ty (λ z. absurd (omega (arith, z, n))) (status-there s Event at token ty 0 o r h) (ty-there s Event at token ty 0 o r h) tabled (rw n long) (rw t good)
+      ∙ rw (m, token-there s Event at token ty 0 o r h, ty-there s Event at token ty 0 o r h, status-there s Event at token ty 0 o r h, end-there s Event at token ty 0 o r h)
 
-  event-back : (token : ℕ) (x : Logging) → TransitionLengths (x .transition) → goodTime (x .transition .time) ≡ true → drop at s ≡ contentOctets Event (loggedEvent token x) ++ r → Found s Event at (loggedEvent token x)
-  unfolding contentOctets eventElement entryOf
-  event-back token x w good h =
-      let e : Entry = entryFor x in
-      let lb = body-length (x .transition) (tusOf (age (x .reading) (x .transition .departure .0))) w in
-      let l : length (e .time ++ e .body) ≡ 30 = length-append (e .time) (e .body) ∙ omega (arith, lb, w .time) in
+  event-back : (token : ℕ) (x : Logging) → EventLengths (x .event) → goodTime (eventTime (x .event)) ≡ true → goodRsnElement (x .event) ≡ true
+      → drop at s ≡ contentOctets Event (loggedEvent token x) ++ r → Found s Event at (loggedEvent token x)
+  unfolding contentOctets eventElement entryWith if_then_else_
+  event-back token x w timed good h =
+      let ty : ℕ = eventType (x .event) in
+      let time : List ℕ = eventTime (x .event) in
+      let body : List ℕ = eventBody (x .reading) (x .event) in
+      let nine = time-nine (x .event) w in
+      let there : drop at s ≡ reportElement Event token ty 0 (time ++ body) ++ r =
+      h ∙ ap (λ (b : List ℕ). reportElement Event token ty 0 (time ++ b) ++ r) (body-back (x .reading) (x .event)) in
+      let behind-time : drop (at + 14) s ≡ body ++ r =
+      stands-behind s (at + 5) time (body ++ r) (rest-there s Event at token ty 0 (time ++ body) r there ∙ append-assoc time body r) (at + 14) (omega (arith, nine)) in
+      let long = length-fits s at r (x .reading) (x .event) w good behind-time (reportLength (length body)) refl in
       record {
         step =
-            logged-back token (e .time) (e .body) (w .time) lb good h
-            ∙ ap (λ (f : Fields). foundStep (loggedElement token 0 successful f) (at + 5) (at + length (eventElement token e))) (transition-back s (at + 5) x r w (rest-there s Event at token 0 0 (e .time ++ e .body) r h));
-        behind = octets-stand s (at + 5) 30 (e .time ++ e .body) r l (rest-there s Event at token 0 0 (e .time ++ e .body) r h);
+            logged-back token ty time body nine (typed (x .event)) timed there long
+            ∙ ap (λ (b : List ℕ). foundStep (loggedElement token ty 0 (length (time ++ body))) (at + 5) (at + length (reportElement Event token ty 0 (time ++ b)))) (sym (body-back (x .reading) (x .event)));
+        behind = behind-there s Event at token ty 0 (time ++ body) r there;
+        decodes = ap (λ (e : ReportedEvent). record { element = loggedElement token ty 0 (length (time ++ body)); behind = time ++ body; event = some e }) (decoded-back (x .reading) (x .event) w);
       }
 
   listed-back : (token ty status : ℕ) (ps : List Subelement) → status ≤ 4 → drop at s ≡ reportElement Diagnostic token ty status (subelements ps) ++ r
@@ -236,17 +225,18 @@ module _ (s : List ℕ) (at : ℕ) (r : List ℕ) where
             ) refl
             ∙ plain-there s Diagnostic at token ty status o r h (length ps);
         behind = behind-there s Diagnostic at token ty status o r h;
+        decodes = refl;
       }
 
   bare-back : (kind : Kind) (token ty status : ℕ) → status ≤ 4 → drop at s ≡ contentOctets kind (statusOnly token ty status) ++ r → Found s kind at (statusOnly token ty status)
-  unfolding contentOctets subelements pieces
+  unfolding contentOctets subelements pieces if_then_else_
   bare-back Event token ty status few h = bare-event token ty status few h
-  bare-back Diagnostic token ty status few h = let f = listed-back token ty status [] few h in record { step = f .step; behind = f .behind }
+  bare-back Diagnostic token ty status few h = let f = listed-back token ty status [] few h in record { step = f .step; behind = f .behind; decodes = refl }
 
   content-back : (kind : Kind) (x : Content kind) → Valid kind x → drop at s ≡ contentOctets kind x ++ r → Found s kind at x
   unfolding contentOctets
   content-back kind (statusOnly token ty status) may h = bare-back kind token ty status may h
-  content-back kind (loggedEvent token x) may h = event-back token x (may .0) (may .1) h
+  content-back kind (loggedEvent token x) may h = event-back token x (may .0) (may .1) (may .2) h
   content-back kind (keptUnread token ty o) may h = kept-back token ty o may h
   content-back kind (withSubelements token ty status ps) may h = listed-back token ty status ps may h
 
@@ -272,7 +262,7 @@ module _ (kind : Kind) (dialog : ℕ) (xs : List (Content kind)) where
   left front x at r may h fits l =
       let f = content-back frame at r kind x may h in
       again _ l (go-on 0 at (length frame) refl (omega (arith, content-some kind x))) (omega (arith, content-some kind x))
-      (rw (f .step, f .behind, map-append (contentRead kind) front (x ∷ [])))
+      (rw (f .step, f .behind, f .decodes, map-append (contentRead kind) front (x ∷ [])))
 
   module _ (may : All (Valid kind) xs) where
     elements-back : readElements frame kind ≡ reading noRefusal (length frame) (map (contentRead kind) xs)

@@ -4,26 +4,30 @@
 use Prim.Native.Nat.{ℕ, _≤_}
 use mathlib.Core.Path.{_≡_}
 use mathlib.Core.Bool.{true, false}
+use mathlib.Core.Option.{none, some}
 use mathlib.Core.List.{List, [], _∷_, _++_, map}
-use lib.ListN.{length}
+use lib.ListN.{length, getD}
 use Rattle.laws.specs.Members.{All}
 use Rattle.laws.specs.Buffers.{pieces}
 use Rattle.octets.specs.declared.numbers.Kind.{Kind}
 use Rattle.octets.specs.declared.numbers.Kind.the-variants.{Event, Diagnostic}
 use Rattle.octets.specs.Numbers.{category, reportAction, successful, cancelled, longestFrame}
 use Rattle.octets.specs.Refusals.{noRefusal}
+use Rattle.octets.specs.Fields.{octetsAt}
 use Rattle.octets.specs.Addresses.{isGroup}
 use Rattle.octets.specs.Elements.{Subelement, subelements}
 use Rattle.octets.specs.Times.{goodTime}
 use Rattle.units.specs.Time.{age, tusOf}
-use Rattle.events.specs.Loggings.{Logging, entryFor, TransitionLengths}
+use Rattle.subelements.specs.Subelements.{tables, bodyAt}
+use Rattle.events.specs.RsnaEvents.{rsnLength, methodLength}
+use Rattle.events.specs.Loggings.{LoggedEvent, transition, rsna, peerLink, eventType, eventTime, eventBody, goodRsnElement, Logging, entryFor, EventLengths}
 use Rattle.reports.specs.Reports.{reportElement, eventElement}
-use Rattle.report_reader.specs.declared.Event.{Event as EventFields}
+use Rattle.report_reader.specs.Decoders.{ReportedEvent, transitionReport, rsnaReport, peerLinkReport}
 use Rattle.report_reader.specs.Reader.{plainElement, loggedElement, readReport, ElementRead, reading, readElements}
 
 -- ---- what one element tells
 
--- token, type and status alone; a token and a logged transition, Successful; a token, another type and octets that are kept unread,
+-- token, type and status alone; a token and a logged event, Successful; a token, another type and octets that are kept unread,
 -- Successful; token, type and status with subelements
 pub data Content : Kind → Type 0 where
   statusOnly : {kind : Kind} → ℕ → ℕ → ℕ → Content kind
@@ -34,8 +38,8 @@ pub data Content : Kind → Type 0 where
 -- document 01 lets it be told
 abbrev pub Valid : (kind : Kind) → Content kind → Type 0
 Valid kind (statusOnly token ty status) = status ≤ cancelled
-Valid kind (loggedEvent token x) = TransitionLengths (x .transition) × (goodTime (x .transition .time) ≡ true)
-Valid kind (keptUnread token ty o) = ty ≡ 0 → ⊥
+Valid kind (loggedEvent token x) = EventLengths (x .event) × (goodTime (eventTime (x .event)) ≡ true) × (goodRsnElement (x .event) ≡ true)
+Valid kind (keptUnread token ty o) = tables ≤ ty
 Valid kind (withSubelements token ty status ps) = status ≤ cancelled
 
 -- its octets, and those of a frame
@@ -50,27 +54,54 @@ contentFrame kind dialog xs = category ∷ reportAction kind ∷ dialog ∷ piec
 
 -- ---- what is to be read of it
 
--- a transition's fields, each as logging took it: "the age between the two in TUs is the transition time"
-unfoldable pub reported : Logging → EventFields
-reported x =
-    let t = x .transition in
-    record {
+-- an event's fields, each as logging took it. Of a transition "the age between the two in TUs is the transition time"; of an EAP method the
+-- octets of its length
+abbrev pub reportedEvent : ℕ → LoggedEvent → ReportedEvent
+reportedEvent now (transition t) =
+    transitionReport (record {
       time = t .time;
       source = t .source;
       target = t .target;
-      took = record { 0 = tusOf (age (x .reading) (t .departure .0)) };
+      took = record { 0 = tusOf (age now (t .departure .0)) };
       reason = t .reason;
       result = t .result;
       signals = t .signals;
-    }
+    })
+reportedEvent now (rsna e rsn) =
+    rsnaReport (record {
+      time = e .time;
+      target = e .target;
+      authentication = e .authentication;
+      method = bodyAt (e .method) 0 (methodLength (getD (e .method) 0 0));
+      result = e .result;
+      rsn = octetsAt rsn 0 rsnLength;
+      size = length rsn;
+    })
+reportedEvent now (peerLink e) =
+    peerLinkReport (record {
+      time = e .time;
+      peer = e .peer;
+      class = e .class;
+      channel = e .channel;
+      power = e .power;
+      connection = e .connection;
+      status = e .status;
+    })
+
+abbrev pub reported : Logging → ReportedEvent
+reported x = reportedEvent (x .reading) (x .event)
 
 -- its fields, and the octets behind its status
+abbrev pub plainRead : ℕ → ℕ → ℕ → List ℕ → ℕ → ElementRead
+plainRead token ty status o subs = record { element = plainElement token ty status (length o) subs; behind = o; event = none }
+
 abbrev pub contentRead : (kind : Kind) → Content kind → ElementRead
-contentRead kind (statusOnly token ty status) = record { element = plainElement token ty status 0 0; behind = [] }
-contentRead kind (loggedEvent token x) = record { element = loggedElement token 0 successful (reported x); behind = entryFor x .time ++ entryFor x .body }
-contentRead kind (keptUnread token ty o) = record { element = plainElement token ty successful (length o) 0; behind = o }
-contentRead kind (withSubelements token ty status ps) =
-    record { element = plainElement token ty status (length (subelements ps)) (length ps); behind = subelements ps }
+contentRead kind (statusOnly token ty status) = plainRead token ty status [] 0
+contentRead kind (loggedEvent token x) =
+    let o = eventTime (x .event) ++ eventBody (x .reading) (x .event) in
+    record { element = loggedElement token (eventType (x .event)) successful (length o); behind = o; event = some (reported x) }
+contentRead kind (keptUnread token ty o) = plainRead token ty successful o 0
+contentRead kind (withSubelements token ty status ps) = plainRead token ty status (subelements ps) (length ps)
 
 -- the frame f, sent to a destination d, is accepted, and has these elements and no others
 pub record ReadAs (d f : List ℕ) (kind : Kind) (dialog : ℕ) (xs : List (Content kind)) : Type 0 where

@@ -2,17 +2,15 @@
 -- What the validation of a frame sees of a step, and the step by that and the frame: proofs/Laws.antt has stepOf s at (verdictOf (stepAt s kind at)) ≡ stepAt s kind at.
 -- Assumes nothing.
 use Prim.Native.Nat.{ℕ, _+_, _-_, _≤_}
-use mathlib.Core.Path.{_≡_}
-use mathlib.Core.Bool.{Bool, true, false}
+use mathlib.Core.Bool.{false}
 use mathlib.Core.List.{List}
 use lib.ListN.{length, getD}
 use Rattle.laws.specs.Choice.{if_then_else_}
-use Rattle.report_reader.specs.declared.Event.{Event}
 use Rattle.report_reader.specs.declared.Element.{Element}
 use Rattle.report_reader.specs.declared.Step.{Step}
 use Rattle.report_reader.specs.declared.Verdict.{Verdict}
 use Rattle.report_reader.specs.declared.Walk.{Walk}
-use Rattle.report_reader.specs.Reader.{noEvent, eventAt, plainElement, foundStep, Reading}
+use Rattle.report_reader.specs.Reader.{plainElement, foundStep, Reading}
 
 -- all but the fields that are only handed out
 unfoldable pub verdictOf : Step → Verdict
@@ -24,9 +22,6 @@ walkOf x = record { refusal = x .refusal; at = x .at; count = length (x .element
 
 -- ---- the fields of what was found at a position
 
-unfoldable pub transitionAt : List ℕ → ℕ → Bool → Event
-transitionAt s at logged = if logged then eventAt s at else noEvent
-
 unfoldable pub foundElement : List ℕ → ℕ → Verdict → Element
 foundElement s at v = record {
   token = getD s (at + 2) 0;
@@ -35,14 +30,12 @@ foundElement s at v = record {
   length = v .next - (at + 5);
   subs = v .subs;
   logged = v .logged;
-  event = transitionAt s (at + 5) (v .logged);
 }
 
--- what was found stands in the frame, with its token, type and status, and with its transition
+-- what was found stands in the frame, with its token, type and status
 pub record Fits (s : List ℕ) (at : ℕ) (v : Verdict) : Type 0 where
   pub head : at + 5 ≤ v .next
   pub within : v .next ≤ length s
-  pub event : v .logged ≡ true → at + 35 ≤ length s
 
 -- an element with its fields; or the refusal alone; or, of another ID, the next position alone
 unfoldable pub stepOf : List ℕ → ℕ → Verdict → Step

@@ -1,3 +1,4 @@
+pub mod Decoders
 pub mod Reader
 pub mod Internal
 pub mod Contents

@@ -1,8 +1,9 @@
 -- Document 01: "Reading a report frame, given its destination: 11, 1, 2, then each element 4, 5, 17, then 14 or 7."
 -- Assumes nothing.
 use Prim.Native.Nat.{ℕ, _+_, _-_}
-use mathlib.Core.Bool.{Bool, true, false, not, _&&_}
+use mathlib.Core.Bool.{Bool, true, false, not, _&&_, _||_}
 use mathlib.Core.List.{List, [], _∷_, _++_}
+use mathlib.Core.Option.{Option, none, some}
 use lib.ListN.{length, getD}
 use lib.Dec.{ltb, eqb}
 use Rattle.laws.specs.Choice.{if_then_else_}
@@ -18,46 +19,23 @@ use Rattle.octets.specs.Frames.{frameKind, frameCause}
 use Rattle.octets.specs.Elements.{pieceEnd}
 use Rattle.octets.specs.Times.{goodTime, timeAt}
 use Rattle.subelements.specs.declared.Subelements.{Subelements}
-use Rattle.subelements.specs.Subelements.{walk}
-use Rattle.events.specs.Transitions.{transitionBodyAt, sourceOf, targetOf, tookOf, reasonOf, resultOf, signalsOf}
-use Rattle.report_reader.specs.declared.Event.{Event}
+use Rattle.subelements.specs.Subelements.{tables, walk}
+use Rattle.events.specs.Transitions.{transitionLength}
+use Rattle.events.specs.RsnaEvents.{methodOffset, rsnLength, rsnaLength}
+use Rattle.events.specs.PeerLinks.{peerLinkLength}
 use Rattle.report_reader.specs.declared.Element.{Element}
 use Rattle.report_reader.specs.declared.Step.{Step}
 use Rattle.report_reader.specs.declared.Report.{Report}
+use Rattle.report_reader.specs.Decoders.{ReportedEvent, decoded}
 
 -- ---- one element
 
-abbrev pub noEvent : Event
-noEvent = record {
-  time = 0 ∷ 0 ∷ 0 ∷ 0 ∷ 0 ∷ 0 ∷ 0 ∷ 0 ∷ 0 ∷ [];
-  source = 0 ∷ 0 ∷ 0 ∷ 0 ∷ 0 ∷ 0 ∷ [];
-  target = 0 ∷ 0 ∷ 0 ∷ 0 ∷ 0 ∷ 0 ∷ [];
-  took = record { 0 = 0 };
-  reason = 0;
-  result = 0;
-  signals = 0 ∷ 0 ∷ 0 ∷ 0 ∷ [];
-}
-
--- "9 octets of time and 21 of transition"
-unfoldable pub eventAt : List ℕ → ℕ → Event
-eventAt s at =
-    let body = transitionBodyAt s (at + 9) in
-    record {
-      time = timeAt s at;
-      source = sourceOf body;
-      target = targetOf body;
-      took = record { 0 = tookOf body };
-      reason = reasonOf body;
-      result = resultOf body;
-      signals = signalsOf body;
-    }
-
--- the fields of an element with no transition, and with one
+-- the fields of an element with no event, and with one
 abbrev pub plainElement : ℕ → ℕ → ℕ → ℕ → ℕ → Element
-plainElement token ty status n subs = record { token = token; ty = ty; status = status; length = n; subs = subs; logged = false; event = noEvent }
+plainElement token ty status n subs = record { token = token; ty = ty; status = status; length = n; subs = subs; logged = false }
 
-abbrev pub loggedElement : ℕ → ℕ → ℕ → Event → Element
-loggedElement token ty status event = record { token = token; ty = ty; status = status; length = 30; subs = 0; logged = true; event = event }
+abbrev pub loggedElement : ℕ → ℕ → ℕ → ℕ → Element
+loggedElement token ty status n = record { token = token; ty = ty; status = status; length = n; subs = 0; logged = true }
 
 -- what stands at a position: refused, passed over, or an element of the frame's own ID
 abbrev pub refusedStep : ℕ → ℕ → Step
@@ -77,27 +55,42 @@ unfoldable pub plainStep : List ℕ → ℕ → ℕ → ℕ → Step
 plainStep s at n subs =
     foundStep (plainElement (getD s (at + 2) 0) (getD s (at + 3) 0) (getD s (at + 4) 0) (n - 3) subs) (at + 5) (at + 2 + n)
 
-unfoldable pub loggedStep : List ℕ → ℕ → Step
-loggedStep s at =
-    foundStep (loggedElement (getD s (at + 2) 0) (getD s (at + 3) 0) (getD s (at + 4) 0) (eventAt s (at + 5))) (at + 5) (at + 35)
+unfoldable pub loggedStep : List ℕ → ℕ → ℕ → Step
+loggedStep s at n =
+    foundStep (loggedElement (getD s (at + 2) 0) (getD s (at + 3) 0) (getD s (at + 4) 0) (n - 3)) (at + 5) (at + 2 + n)
 
 -- "event body not 3 with status 1 to 4" (17)
 unfoldable pub bareStep : List ℕ → ℕ → ℕ → Step
 bareStep s at n = if eqb n 3 then plainStep s at n 0 else refusedStep badReportBody at
 
--- "event type 0 Successful not 3 or 33" (17), then its time (14)
-unfoldable pub transitionStep : List ℕ → ℕ → ℕ → Step
-transitionStep s at n =
+-- the octets of a report body with an event whose body has so many: token, type, status, nine of time, and they
+abbrev pub reportLength : ℕ → ℕ
+reportLength n = 12 + n
+
+-- of an RSNA event, without its RSN element and with it
+abbrev pub isRsnaLength : ℕ → ℕ → Bool
+isRsnaLength first n = eqb n (reportLength (rsnaLength first)) || eqb n (reportLength (rsnaLength first + rsnLength))
+
+-- has the body of an element of n octets the length of its event type? An RSNA event's goes by the first octet of its EAP method
+unfoldable pub isEventLength : List ℕ → ℕ → ℕ → ℕ → Bool
+isEventLength s at n ty =
+    if eqb ty 0 then eqb n (reportLength transitionLength)
+    else if eqb ty 1 then isRsnaLength (getD s (at + 14 + methodOffset) 0) n
+    else eqb n (reportLength peerLinkLength)
+
+-- "event type 0 Successful not 3 or 33" (17), and so for each type with a table; then its time (14)
+unfoldable pub typedStep : List ℕ → ℕ → ℕ → Step
+typedStep s at n =
     if eqb n 3 then plainStep s at n 0
-    else if not (eqb n 33) then refusedStep badReportBody at
+    else if not (isEventLength s at n (getD s (at + 3) 0)) then refusedStep badReportBody at
     else if not (goodTime (timeAt s (at + 5))) then refusedStep badTime at
-    else loggedStep s at
+    else loggedStep s at n
 
 -- "For status 0 of other event types the rest is kept unread."
 unfoldable pub eventStep : List ℕ → ℕ → ℕ → Step
 eventStep s at n =
     if not (eqb (getD s (at + 4) 0) successful) then bareStep s at n
-    else if eqb (getD s (at + 3) 0) 0 then transitionStep s at n
+    else if ltb (getD s (at + 3) 0) tables then typedStep s at n
     else plainStep s at n 0
 
 -- "A Diagnostic Report has subelements instead, with any status.": their edges (7)
@@ -107,7 +100,7 @@ walkedStep s at n w =
     else plainStep s at n (w .count)
 
 unfoldable pub diagnosticStep : List ℕ → ℕ → ℕ → Step
-diagnosticStep s at n = walkedStep s at n (walk s 0 (at + 5) (at + 2 + n))
+diagnosticStep s at n = walkedStep s at n (walk s tables (at + 5) (at + 2 + n))
 
 abbrev pub kindStep : Kind → List ℕ → ℕ → ℕ → Step
 kindStep EventKind s at n = eventStep s at n
@@ -129,13 +122,17 @@ stepAt s kind at =
 
 -- ---- the elements of a frame, as the cursor hands them out, from the front to the end or to the first refusal
 
--- an element's fields, and the octets behind its status
+-- an element's fields, the octets behind its status, and the event that they are, where they are one
 pub record ElementRead : Type 0 where
   pub element : Element
   pub behind : List ℕ
+  pub event : Option ReportedEvent
+
+abbrev pub elementRead : Element → List ℕ → ElementRead
+elementRead e o = record { element = e; behind = o; event = if e .logged then some (decoded (e .ty) o) else none }
 
 abbrev pub elementReadAt : List ℕ → Step → ElementRead
-elementReadAt s t = record { element = t .element; behind = octetsAt s (t .rest) (t .element .length) }
+elementReadAt s t = elementRead (t .element) (octetsAt s (t .rest) (t .element .length))
 
 pub record Reading : Type 0 where
   pub refusal : Refusal

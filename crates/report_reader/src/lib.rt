@@ -1,12 +1,18 @@
 // Report frames, read (document 01, causes 11, 1, 2, then 4, 5, 17, 14 and 7): a frame is validated
-// whole, and a cursor hands out its elements.
-use events::transitions::body_at;
-use events::transitions::reason_of;
-use events::transitions::result_of;
-use events::transitions::signals_of;
-use events::transitions::source_of;
-use events::transitions::target_of;
-use events::transitions::took_of;
+// whole, a cursor hands out its elements, and a decoder for each kind reads an event's octets.
+mod decoders;
+
+pub use decoders::PeerLinkReport;
+pub use decoders::RsnaReport;
+pub use decoders::TransitionReport;
+pub use decoders::peer_link_in;
+pub use decoders::rsna_in;
+pub use decoders::transition_in;
+use events::peer_links::PEER_LINK_LENGTH;
+use events::rsna_events::METHOD_OFFSET;
+use events::rsna_events::RSN_LENGTH;
+use events::rsna_events::rsna_length;
+use events::transitions::TRANSITION_LENGTH;
 use octets::Kind;
 use octets::Refusal;
 use octets::causes;
@@ -21,30 +27,20 @@ use octets::size;
 use octets::time_at;
 use subelements::Subelements;
 use subelements::walk_edges;
-use units::TimeUnits;
 ghost use mathlib.Core.Path.{_≡_};
 ghost use mathlib.Core.Bool.{true};
 ghost use mathlib.Core.List.{List};
 ghost use Prim.Native.Nat.{ℕ, _+_, _^_, _≤_, _<_};
 ghost use lib.ListN.{length, getD};
 ghost use Rattle.report_reader.specs.declared.Step.{Step};
-ghost use Rattle.report_reader.specs.Reader.{noEvent, eventAt, refusedStep, skippedStep, plainStep, loggedStep, transitionStep, eventStep, walkedStep, diagnosticStep, ownReportStep, stepAt, Reading, gathered, readElements, refusedReport, reportOf, readReport};
-ghost use Rattle.report_reader.specs.Internal.{verdictOf, walkOf, transitionAt, foundElement, Fits, stepOf};
+ghost use Rattle.report_reader.specs.Reader.{refusedStep, skippedStep, plainStep, loggedStep, isRsnaLength, isEventLength, typedStep, eventStep, walkedStep, diagnosticStep, ownReportStep, stepAt, Reading, gathered, readElements, refusedReport, reportOf, readReport};
+ghost use Rattle.report_reader.specs.Internal.{verdictOf, walkOf, foundElement, Fits, stepOf};
 
-// A reported transition; the signals are source RCPI, source RSNI, target RCPI and target RSNI.
-#[repr(C)]
-pub struct Event {
-    pub time: [u8; 9],
-    pub source: [u8; 6],
-    pub target: [u8; 6],
-    pub took: TimeUnits,
-    pub reason: u8,
-    pub result: u16,
-    pub signals: [u8; 4],
-}
+// What a report body with an event has in front of the event's own: token, type, status, time.
+const EVENT_HEAD: usize = 12;
 
 // The fields of a report element: how many octets stand behind its status, how many subelements
-// they are (in a diagnostic), and whether they are a transition (else it is all zeros).
+// they are (in a diagnostic), and whether they are an event, which the decoder of its type reads.
 #[repr(C)]
 pub struct Element {
     pub token: u8,
@@ -53,7 +49,6 @@ pub struct Element {
     pub length: usize,
     pub subs: usize,
     pub logged: bool,
-    pub event: Event,
 }
 
 // A position in a frame, where an element starts.
@@ -71,8 +66,8 @@ pub struct Step {
     pub next: Cursor,
 }
 
-// What the validation of a frame sees of a step: of the element's fields only whether it holds a
-// transition and how many subelements. Next is the position behind it.
+// What the validation of a frame sees of a step: of the element's fields only whether it holds
+// an event and how many subelements. Next is the position behind it.
 struct Verdict {
     pub refusal: Refusal,
     pub found: bool,
@@ -96,40 +91,7 @@ pub struct Report {
     pub count: usize,
 }
 
-// ---- one element
-
-fn no_event() -> Event
-    ensures { λ r. ⌜ r ≡ noEvent ⌝ }
-{
-    Event {
-        time: [0; 9],
-        source: [0; 6],
-        target: [0; 6],
-        took: TimeUnits(0),
-        reason: 0,
-        result: 0,
-        signals: [0; 4],
-    }
-}
-
-// The nine octets of time and the 21 of transition at a position.
-fn event_at(s: &[u8], at: usize) -> Event
-    requires { ⌜ at ≤ length (now s) ⌝ }
-    ensures { λ r. ⌜ r ≡ eventAt (now (s .entry)) at ⌝ }
-{
-    let body = body_at(s, at + 9);
-    Event {
-        time: time_at(s, at),
-        source: source_of(&body),
-        target: target_of(&body),
-        took: took_of(&body),
-        reason: reason_of(&body),
-        result: result_of(&body),
-        signals: signals_of(&body),
-    }
-}
-
-// ---- its verdict
+// ---- the verdict on one element
 
 fn refused(number: u8, place: usize) -> Verdict
     ensures { λ r. ⌜ r ≡ verdictOf (refusedStep number place) ⌝ }
@@ -156,7 +118,7 @@ fn skipped(next: usize) -> Verdict
     }
 }
 
-// An element with no transition; the verdict is the same whatever its octets are.
+// An element with no event; the verdict is the same whatever its octets are.
 fn plain(next: usize, subs: usize) -> Verdict
     ensures { λ r. ⌜ ((s : List ℕ) (at n : ℕ) → next ≡ at + 2 + n → r ≡ verdictOf (plainStep s at n subs)) ⌝ }
 {
@@ -169,33 +131,55 @@ fn plain(next: usize, subs: usize) -> Verdict
     }
 }
 
-// An element with a transition.
-fn logged(at: usize) -> Verdict
-    requires { ⌜ at + 35 < 2 ^ 64 ⌝ }
-    ensures { λ r. ⌜ ((s : List ℕ) → r ≡ verdictOf (loggedStep s at)) ⌝ }
+// An element with an event.
+fn logged(next: usize) -> Verdict
+    ensures { λ r. ⌜ ((s : List ℕ) (at n : ℕ) → next ≡ at + 2 + n → r ≡ verdictOf (loggedStep s at n)) ⌝ }
 {
     Verdict {
         refusal: Refusal::none(),
         found: true,
         logged: true,
         subs: 0,
-        next: at + 35,
+        next,
     }
 }
 
-// A Successful report of event type 0, not of length 3. Its time is read of a part of the frame, whose
-// length is a constant: the compiler takes out the tests for the end.
-fn validate_transition(s: &[u8], at: usize, n: usize) -> Verdict
-    requires { ⌜ (n ≡ 3 → ⊥) × (at + 2 + n ≤ length (now s)) ⌝ }
-    ensures { λ r. ⌜ r ≡ verdictOf (transitionStep (now (s .entry)) at n) ⌝ }
+// Has an RSNA event, by the first octet of its EAP method, a body of n octets?
+fn is_rsna_length(first: u8, n: usize) -> bool
+    ensures { λ r. ⌜ r ≡ isRsnaLength first n ⌝ }
 {
-    if n != 33 {
+    let bare = EVENT_HEAD + rsna_length(first);
+    if n == bare {
+        return true;
+    }
+    n == bare + RSN_LENGTH
+}
+
+// Has an event of a type a body of n octets?
+fn is_event_length(s: &[u8], at: usize, n: usize, ty: u8) -> bool
+    requires { ⌜ at + 2 + n ≤ length (now s) ⌝ }
+    ensures { λ r. ⌜ r ≡ isEventLength (now (s .entry)) at n ty ⌝ }
+{
+    match ty {
+        0 => n == EVENT_HEAD + TRANSITION_LENGTH,
+        1 => is_rsna_length(octet(s, at + 14 + METHOD_OFFSET), n),
+        2..=255 => n == EVENT_HEAD + PEER_LINK_LENGTH,
+    }
+}
+
+// A Successful report of an event type with a table, not of length 3. Its time is read of a part of the
+// frame, whose length is then a constant.
+fn validate_typed(s: &[u8], at: usize, n: usize, end: usize) -> Verdict
+    requires { ⌜ (n ≡ 3 → ⊥) × (3 ≤ n) × (end ≡ at + 2 + n) × (end ≤ length (now s)) ⌝ }
+    ensures { λ r. ⌜ r ≡ verdictOf (typedStep (now (s .entry)) at n) ⌝ }
+{
+    if !is_event_length(s, at, n, s[at + 3]) {
         return refused(causes::BAD_REPORT_BODY, at);
     }
     if !good_time(time_at(&s[at + 5..at + 14], 0)) {
         return refused(causes::BAD_TIME, at);
     }
-    logged(at)
+    logged(end)
 }
 
 // An event report; one of length 3 has nothing more, whatever its status and type.
@@ -211,8 +195,8 @@ fn validate_event(s: &[u8], at: usize, n: usize, end: usize) -> Verdict
     }
     let ty = s[at + 3];
     match ty {
-        0 => validate_transition(s, at, n),
-        1..=255 => plain(end, 0),
+        0..=2 => validate_typed(s, at, n, end),
+        3..=255 => plain(end, 0),
     }
 }
 
@@ -265,17 +249,6 @@ fn validate_at(s: &[u8], kind: Kind, at: usize) -> Verdict
 
 // ---- its step, by the verdict
 
-// The transition at a position, where one is, read of a part for the same reason.
-fn transition_at(s: &[u8], at: usize, logged: bool) -> Event
-    requires { ⌜ (logged ≡ true → at + 30 ≤ length (now s)) ⌝ }
-    ensures { λ r. ⌜ r ≡ transitionAt (now (s .entry)) at logged ⌝ }
-{
-    if logged {
-        return event_at(&s[at..at + 30], 0);
-    }
-    no_event()
-}
-
 // The fields of an element that was found.
 fn element_at(s: &[u8], at: usize, v: Verdict) -> Element
     requires { ⌜ Fits (now s) at v ⌝ }
@@ -288,7 +261,6 @@ fn element_at(s: &[u8], at: usize, v: Verdict) -> Element
         length: v.next - (at + 5),
         subs: v.subs,
         logged: v.logged,
-        event: transition_at(s, at + 5, v.logged),
     }
 }
 
@@ -316,7 +288,6 @@ fn step_of(s: &[u8], at: usize, v: Verdict) -> Step
             length: 0,
             subs: 0,
             logged: false,
-            event: no_event(),
         },
         rest: 0,
         next: Cursor { at: v.next },

@@ -7,14 +7,15 @@ use Rattle.octets.specs.declared.numbers.Kind.the-variants.{Event}
 use Rattle.octets.specs.Numbers.{reportId, successful}
 use Rattle.octets.specs.Elements.{framed}
 use Rattle.events.specs.declared.Entry.{Entry}
+use Rattle.events.specs.Log.{bodyOf}
 
 -- "Report body: token, type, status", and what follows
 unfoldable pub reportElement : Kind → ℕ → ℕ → ℕ → List ℕ → List ℕ
 reportElement kind token ty status rest = framed (reportId kind) (token ∷ ty ∷ status ∷ rest)
 
--- "for status 0 of event type 0 .. 9 octets of time and 21 of transition"
+-- "for status 0 of event type 0 .. 9 octets of time and 21 of transition", and so for each kind: its time, and its body
 unfoldable pub eventElement : ℕ → Entry → List ℕ
-eventElement token entry = reportElement Event token (entry .ty) successful (entry .time ++ entry .body)
+eventElement token entry = reportElement Event token (entry .ty) successful (entry .time ++ bodyOf entry)
 
 -- an element's octets up to its status, with n octets behind them
 abbrev pub reportHead : Kind → ℕ → ℕ → ℕ → ℕ → List ℕ

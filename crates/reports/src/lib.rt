@@ -1,6 +1,8 @@
 // Report elements, written (document 01, "Frames and elements"): each is put whole at the front of
 // the part of a report buffer that is lent, or not at all.
+use events::BODY_CAPACITY;
 use events::Entry;
+use events::transitions::TRANSITION_LENGTH;
 use octets::Kind;
 use octets::least;
 use octets::numbers;
@@ -9,7 +11,9 @@ ghost use mathlib.Core.Path.{_≡_};
 ghost use mathlib.Core.List.{[]};
 ghost use Prim.Native.Nat.{_≤_};
 ghost use lib.ListN.{length, take};
-ghost use Rattle.laws.specs.Buffers.{wrote, putFront};
+ghost use Rattle.laws.specs.Buffers.{wrote, putFront, putAt};
+ghost use Rattle.events.specs.Transitions.{transitionLength};
+ghost use Rattle.events.specs.Log.{bodyCapacity};
 ghost use Rattle.reports.specs.Reports.{reportHead, reportElement, eventElement};
 
 // The longest list behind token, type and status.
@@ -33,19 +37,38 @@ pub fn put_plain(buf: &mut [u8], kind: Kind, token: u8, ty: u8, status: u8) -> u
     put(buf, 0, &head)
 }
 
+// The first n octets of a body behind the first `at` of a buffer.
+fn put_body(buf: &mut [u8], at: usize, body: [u8; BODY_CAPACITY], n: usize) -> usize
+    requires { ⌜ n ≤ bodyCapacity ⌝ }
+    ensures { λ r. ⌜ wrote r (now (buf .exit)) ≡ putAt (take n body) at (now (buf .entry)) ⌝ }
+{
+    put(buf, at, &body[..n])
+}
+
+// Those of a transition's: a copy of a fixed size, which a body of its own keeps apart from the other.
+fn put_transition(buf: &mut [u8], at: usize, body: [u8; BODY_CAPACITY]) -> usize
+    ensures { λ r. ⌜ wrote r (now (buf .exit)) ≡ putAt (take transitionLength body) at (now (buf .entry)) ⌝ }
+{
+    put(buf, at, &body[..TRANSITION_LENGTH])
+}
+
 // A Successful report with an event: its time and its body.
 pub fn put_event(buf: &mut [u8], token: u8, entry: Entry) -> usize
     ensures { λ r. ⌜ wrote r (now (buf .exit)) ≡ putFront (eventElement token entry) (now (buf .entry)) ⌝ }
 {
-    if buf.len() < 35 {
+    let n = least(entry.length as usize, BODY_CAPACITY);
+    if buf.len() < 14 + n {
         return 0;
     }
-    let head = head_of(Kind::Event, token, entry.ty, numbers::SUCCESSFUL, 30);
+    let head = head_of(Kind::Event, token, entry.ty, numbers::SUCCESSFUL, 9 + n);
     let time = entry.time;
     let body = entry.body;
     let behind_head = put(buf, 0, &head);
     let behind_time = put(buf, behind_head, &time);
-    put(buf, behind_time, &body)
+    if n == TRANSITION_LENGTH {
+        return put_transition(buf, behind_time, body);
+    }
+    put_body(buf, behind_time, body, n)
 }
 
 // A report with the first n octets of a list behind its status.

@@ -1,13 +1,13 @@
 -- The elements that were written are read back: the reader's walk and the writer's test of tokens go along the elements together.
 -- Assumes nothing.
 use Prim.Native.Nat.{ℕ, suc, _+_, _-_, _≤_, _<_}
-use mathlib.Core.Path.{_≡_, refl, sym, _∙_}
+use mathlib.Core.Path.{_≡_, refl, sym, ap, _∙_}
 use mathlib.Core.Bool.{Bool, true, false}
 use mathlib.Core.List.{List, [], _∷_, _++_, append-assoc, append-nil, map, map-append}
 use lib.ListN.{length, getD, take, drop, set, length-append, length-map}
 use lib.Seq.{take-at}
-use lib.Dec.{eqb}
-use borrow.Author.Tests.{le-ltb, lt-leb, eq-eqb, ne-eqb}
+use lib.Dec.{ltb}
+use borrow.Author.Tests.{le-ltb, lt-leb, eq-eqb, ne-eqb, ltb-false}
 use native.Mathlib.Numerals.{add-one}
 use native.Mathlib.Nat.{add-zero, zero-add}
 use native.Mathlib.Omega.{arith}
@@ -25,14 +25,14 @@ use Rattle.octets.specs.Numbers.{requestId}
 use Rattle.octets.specs.Elements.{framed}
 use Rattle.octets.proofs.ElementLaws.{piece-stands}
 use Rattle.octets.proofs.FieldLaws.{pair-halves}
-use Rattle.subelements.specs.Subelements.{noFilter, walked, walk}
+use Rattle.subelements.specs.Subelements.{noFilter, walked, tables, walk}
 use Rattle.requests.specs.declared.Element.{Element}
 use Rattle.requests.specs.Elements.{elementCapacity, ElementWalk, leastBody, limitAt, timeoutAt, subelementsOf, blankElements, pastElements, hasToken, badToken, withElement, ownRequestStep, elementStep, moreElements}
 use Rattle.laws.specs.Members.{All, also, any}
 use Rattle.request_writer.specs.Frames.{filterOctets, elementBody, elementOctets}
 use Rattle.request_writer.specs.Writer.{tokenRefusal}
-use Rattle.request_writer.specs.ReadBack.{ElementLengths, present, readFilter, readElement}
-use Rattle.request_writer.proofs.ConditionsBack.{atSubelements, conditions-back}
+use Rattle.request_writer.specs.ReadBack.{ElementLengths, writtenConditions, readFilter, readElement}
+use Rattle.request_writer.proofs.ConditionsBack.{atSubelements, no-conditions, conditions-back}
 
 abbrev pub atElements : ℕ → ℕ → List Element → ElementWalk
 atElements at n es = record { refusal = noRefusal; at = at; count = n; elements = es }
@@ -43,9 +43,9 @@ head-length kind e = omega arith
 
 -- ---- one element that stands at a position
 
-no-subelements : (s : List ℕ) (known end : ℕ) → walk s known end end ≡ atSubelements end 0 noFilter
+no-subelements : (s : List ℕ) (ty end : ℕ) → walk s ty end end ≡ atSubelements end 0 noFilter
 unfolding walk
-no-subelements s known end = sym (done {left = 0} (start _ _ end 0 _ (omega arith)) (stop-end 0 end end refl (omega arith)))
+no-subelements s ty end = sym (done {left = 0} (start _ _ end 0 _ (omega arith)) (stop-end 0 end end refl (omega arith)))
 
 module _ (s : List ℕ) (at : ℕ) (e : Element) (r : List ℕ) where
   abbrev Stands : Kind → Type 0
@@ -77,22 +77,28 @@ module _ (s : List ℕ) (at : ℕ) (e : Element) (r : List ℕ) where
   subelements-back : (kind : Kind) (end : ℕ) → Stands kind → ElementLengths e → end ≡ at + length (elementOctets kind e)
       → subelementsOf s kind at end ≡ atSubelements end (readElement kind e .subs) (readElement kind e .filter)
   unfolding subelementsOf elementOctets elementBody readElement walk if_then_else_
-  subelements-back Event end h shaped ends = rw (type-at Event h) (go (eqb (e .ty) 0) h ends)
+  subelements-back Event end h shaped ends = rw (type-at Event h) (go (ltb (e .ty) tables) refl)
     where
-      body : Bool → List ℕ
-      body t = e .token ∷ e .ty ∷ e .limit ∷ (if t then filterOctets (e .filter) else [])
+      body : List ℕ
+      body = elementBody Event e
 
-      go : (t : Bool) → drop at s ≡ framed 78 (body t) ++ r → end ≡ at + length (framed 78 (body t))
-          → (if t then walk s 5 (at + 5) end else walked noRefusal end)
-          ≡ atSubelements end (if t then present (e .filter) else 0) (if t then readFilter 0 (e .filter) else noFilter)
-      go true h ends =
-          conditions-back s end (walk s 5 (at + 5) end) (e .filter) [] (at + 5) 0 0 r (shaped .octets) refl (zero-add _ ∙ shaped .filter)
-          (stands-behind s at (78 ∷ length (body true) ∷ e .token ∷ e .ty ∷ e .limit ∷ []) (filterOctets (e .filter) ++ r) h (at + 5) refl)
+      all : walk s (e .ty) (at + 5) end ≡ atSubelements end (writtenConditions (e .ty) 0 (e .filter)) (readFilter (e .ty) 0 (e .filter))
+      all =
+          conditions-back s (e .ty) end (walk s (e .ty) (at + 5) end) (e .filter) [] (at + 5) 0 0 r (shaped .octets) refl (zero-add _ ∙ shaped .filter)
+          (stands-behind s at (78 ∷ length body ∷ e .token ∷ e .ty ∷ e .limit ∷ []) (filterOctets (e .ty) (e .filter) ++ r) h (at + 5) refl)
           (omega arith)
           (start _ _ end _ _ (omega arith))
-          ∙ rw (zero-add (present (e .filter)))
-      go false h ends = refl
-  subelements-back Diagnostic end h shaped ends = let p : at + 6 ≡ end = omega arith in rw p (no-subelements s 0 end)
+          ∙ rw (zero-add (writtenConditions (e .ty) 0 (e .filter)))
+
+      go : (t : Bool) → ltb (e .ty) tables ≡ t
+          → (if t then walk s (e .ty) (at + 5) end else walked noRefusal end)
+          ≡ atSubelements end (writtenConditions (e .ty) 0 (e .filter)) (readFilter (e .ty) 0 (e .filter))
+      go true q = all
+      go false q =
+          let none = no-conditions (e .ty) (ltb-false (e .ty) tables q) (e .filter) 0 in
+          let ended : end ≡ at + 5 = omega (arith, ends, ap length none) in
+          sym (no-subelements s (e .ty) end) ∙ ap (λ (from : ℕ). walk s (e .ty) from end) ended ∙ all
+  subelements-back Diagnostic end h shaped ends = let p : at + 6 ≡ end = omega arith in rw p (no-subelements s tables end)
 
   body-least : (kind : Kind) → leastBody kind ≤ length (elementBody kind e)
   unfolding elementBody

@@ -20,16 +20,15 @@ use Rattle.octets.specs.Numbers.{requestAction}
 use Rattle.octets.specs.Fields.{low, high}
 use Rattle.octets.specs.Elements.{framed}
 use Rattle.subelements.specs.declared.Condition.{Condition}
-use Rattle.subelements.specs.Subelements.{lengthOf}
 use Rattle.requests.specs.declared.Element.{Element}
 use Rattle.requests.specs.Elements.{elementCapacity, pastElements, badToken}
 use Rattle.laws.proofs.Arrays.{take-next}
 use Rattle.laws.proofs.Pieces.{pieces-snoc}
 use Rattle.laws.proofs.Parts.{spelt, spelt-all}
 use Rattle.request_writer.specs.declared.Written.{Written}
-use Rattle.request_writer.specs.Frames.{conditionOctets, filterOctets, elementBody, elementOctets, elementsOctets, frameOctets}
+use Rattle.request_writer.specs.Frames.{conditionLength, conditionOctets, filterOctets, elementBody, elementOctets, elementsOctets, frameOctets}
 use Rattle.request_writer.specs.Writer.{tokenRefusal, refusedWritten, writtenLength, elementsAnswer, frameAnswer, writeAnswer, writeOctets, outcome, writeRequest}
-use Rattle.request_writer.proofs.ConditionsBack.{length-of}
+use Rattle.request_writer.proofs.ConditionsBack.{length-within}
 use Rattle.request_writer.proofs.RoundTrip.{elements-accepted, frame-accepted}
 
 -- ---- general
@@ -47,32 +46,28 @@ headed h o s a e fits =
 pub tail-length : (s : List ℕ) (a : ℕ) → a ≤ length s → length (take (length s - a) (drop a s)) ≡ length s - a
 tail-length s a h = length-take-le (length s - a) (drop a s) (omega (arith, length-drop a s))
 
--- an array of six, place by place
-pub six : (o : List ℕ) → length o ≡ 6 → getD o 0 0 ∷ getD o 1 0 ∷ getD o 2 0 ∷ getD o 3 0 ∷ getD o 4 0 ∷ getD o 5 0 ∷ [] ≡ o
-unfolding spelt
-six o e = spelt-all 6 o e
-
 -- ---- conditions
 
-module _ (id : ℕ) (c : Condition) where
-  pub absent-octets : c .present ≡ false → conditionOctets id c ≡ []
+module _ (ty id : ℕ) (c : Condition) where
+  pub absent-octets : conditionLength ty id c ≡ 0 → conditionOctets ty id c ≡ []
   unfolding conditionOctets if_then_else_
-  absent-octets e = rw e
+  absent-octets e = rw (eq-eqb _ 0 e)
 
-  present-octets : c .present ≡ true → conditionOctets id c ≡ framed id (take (lengthOf id) (c .octets))
+  present-octets : (conditionLength ty id c ≡ 0 → ⊥) → conditionOctets ty id c ≡ framed id (take (conditionLength ty id c) (c .octets))
   unfolding conditionOctets if_then_else_
-  present-octets e = rw e
+  present-octets e = rw (ne-eqb _ 0 e)
 
-  -- the first octets of a condition's array of eight
-  pub condition-source : (n : ℕ) → c .present ≡ true → id < 5 → length (c .octets) ≡ 6 → n ≡ lengthOf id
-      → take (2 + n) (id ∷ n ∷ getD (c .octets) 0 0 ∷ getD (c .octets) 1 0 ∷ getD (c .octets) 2 0 ∷ getD (c .octets) 3 0 ∷ getD (c .octets) 4 0 ∷ getD (c .octets) 5 0 ∷ []) ≡ conditionOctets id c
-  condition-source n p small long e =
-      let l : length (take (lengthOf id) (c .octets)) ≡ lengthOf id = length-take-le (lengthOf id) (c .octets) (omega (arith, length-of id small)) in
+  -- the first octets of a condition's array of ten
+  pub condition-source : (n : ℕ) → (n ≡ 0 → ⊥) → length (c .octets) ≡ 8 → n ≡ conditionLength ty id c
+      → take (2 + n) (id ∷ n ∷ spelt 8 0 (c .octets) 0) ≡ conditionOctets ty id c
+  condition-source n some long e =
+      let m : ℕ = conditionLength ty id c in
+      let l : length (take m (c .octets)) ≡ m = length-take-le m (c .octets) (omega (arith, length-within ty id c)) in
       take-append-add (id ∷ n ∷ []) _ n
-      ∙ ap (λ (o : List ℕ). id ∷ n ∷ take n o) (six (c .octets) long)
+      ∙ ap (λ (o : List ℕ). id ∷ n ∷ take n o) (spelt-all 8 (c .octets) long)
       ∙ ap (λ (k : ℕ). id ∷ k ∷ take k (c .octets)) e
-      ∙ ap (λ (k : ℕ). id ∷ k ∷ take (lengthOf id) (c .octets)) (sym l)
-      ∙ sym (present-octets p)
+      ∙ ap (λ (k : ℕ). id ∷ k ∷ take m (c .octets)) (sym l)
+      ∙ sym (present-octets (λ z. some (e ∙ z)))
 
 -- ---- elements
 
@@ -81,16 +76,12 @@ module _ (e : Element) where
   unfolding elementOctets elementBody
   diagnostic-octets = refl
 
-  pub plain-octets : (e .ty ≡ 0 → ⊥) → 78 ∷ 3 ∷ e .token ∷ e .ty ∷ e .limit ∷ [] ≡ elementOctets Event e
-  unfolding elementOctets elementBody if_then_else_
-  plain-octets n = rw (ne-eqb (e .ty) 0 n)
-
-  pub transition-octets : (n : ℕ) → e .ty ≡ 0 → n ≡ length (filterOctets (e .filter))
-      → (78 ∷ (3 + n) ∷ e .token ∷ e .ty ∷ e .limit ∷ []) ++ filterOctets (e .filter) ≡ elementOctets Event e
-  unfolding elementOctets elementBody if_then_else_
-  transition-octets n z is =
-      let m : 3 + n ≡ suc (suc (suc (length (filterOctets (e .filter))))) = omega arith in
-      rw (eq-eqb (e .ty) 0 z, m)
+  pub event-octets : (n : ℕ) → n ≡ length (filterOctets (e .ty) (e .filter))
+      → (78 ∷ (3 + n) ∷ e .token ∷ e .ty ∷ e .limit ∷ []) ++ filterOctets (e .ty) (e .filter) ≡ elementOctets Event e
+  unfolding elementOctets elementBody
+  event-octets n is =
+      let m : 3 + n ≡ suc (suc (suc (length (filterOctets (e .ty) (e .filter))))) = omega arith in
+      rw m
 
 -- ---- the elements, one behind the other: i of them stand at the front of buf, in `at` octets, and their tokens are good
 

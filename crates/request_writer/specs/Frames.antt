@@ -2,7 +2,7 @@
 -- Assumes nothing.
 use Prim.Native.Nat.{ℕ}
 use mathlib.Core.List.{List, [], _∷_}
-use lib.ListN.{take}
+use lib.ListN.{getD, take}
 use lib.Dec.{eqb}
 use Rattle.laws.specs.Choice.{if_then_else_}
 use Rattle.laws.specs.Buffers.{pieces}
@@ -15,18 +15,25 @@ use Rattle.subelements.specs.declared.Condition.{Condition}
 use Rattle.subelements.specs.Subelements.{lengthOf}
 use Rattle.requests.specs.declared.Element.{Element}
 
--- a condition that is present is a subelement, with the length of the table
-unfoldable pub conditionOctets : ℕ → Condition → List ℕ
-conditionOctets id c = if c .present then framed id (take (lengthOf id) (c .octets)) else []
+-- how many octets of a condition are written in a request for an event type: the length of the type's table for its ID, by its first octet;
+-- none where it is absent, or where the table has no length
+unfoldable pub conditionLength : ℕ → ℕ → Condition → ℕ
+conditionLength ty id c = if c .present then lengthOf ty id (getD (c .octets) 0 0) else 0
+
+-- one with octets is a subelement
+unfoldable pub conditionOctets : ℕ → ℕ → Condition → List ℕ
+conditionOctets ty id c =
+    if eqb (conditionLength ty id c) 0 then []
+    else framed id (take (conditionLength ty id c) (c .octets))
 
 -- "Writers put subelements in rising ID order"
-abbrev pub filterOctets : List Condition → List ℕ
-filterOctets filter = pieces conditionOctets 0 filter
+abbrev pub filterOctets : ℕ → List Condition → List ℕ
+filterOctets ty filter = pieces (conditionOctets ty) 0 filter
 
--- "token, type, response limit, subelements"; "token, type, timeout in seconds (2 octets), subelements"; "diagnostic requests and event
--- types other than 0 are written .. with none"
+-- "token, type, response limit, subelements"; "token, type, timeout in seconds (2 octets), subelements"; "diagnostic requests .. are written
+-- .. with none"
 unfoldable pub elementBody : Kind → Element → List ℕ
-elementBody Event e = e .token ∷ e .ty ∷ e .limit ∷ (if eqb (e .ty) 0 then filterOctets (e .filter) else [])
+elementBody Event e = e .token ∷ e .ty ∷ e .limit ∷ filterOctets (e .ty) (e .filter)
 elementBody Diagnostic e = e .token ∷ e .ty ∷ low (e .timeout) ∷ high (e .timeout) ∷ []
 
 unfoldable pub elementOctets : Kind → Element → List ℕ

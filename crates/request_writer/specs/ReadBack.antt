@@ -14,35 +14,39 @@ use Rattle.octets.specs.declared.numbers.Kind.the-variants.{Event, Diagnostic}
 use Rattle.octets.specs.Refusals.{noRefusal, badFrameLength}
 use Rattle.octets.specs.Numbers.{requestBuffer}
 use Rattle.subelements.specs.declared.Condition.{Condition}
-use Rattle.subelements.specs.Subelements.{lengthOf, bodyAt, absent, noFilter}
+use Rattle.subelements.specs.Subelements.{bodyAt, absent, noFilter}
 use Rattle.requests.specs.declared.Element.{Element}
 use Rattle.requests.specs.declared.Request.{Request}
 use Rattle.requests.specs.Elements.{elementCapacity, blankElements}
 use Rattle.requests.specs.Requests.{refusedRequest, readRequest}
+use Rattle.request_writer.specs.Frames.{conditionLength}
 use Rattle.request_writer.specs.Writer.{writeAnswer, writeOctets}
 
--- a condition: the octets of its length, 0 past them
-unfoldable pub readCondition : ℕ → Condition → Condition
-readCondition id c = if c .present then record { present = true; octets = bodyAt (c .octets) 0 (lengthOf id) } else absent
+-- a condition: the octets that are written, 0 past them
+unfoldable pub readCondition : ℕ → ℕ → Condition → Condition
+readCondition ty id c =
+    if eqb (conditionLength ty id c) 0 then absent
+    else record { present = true; octets = bodyAt (c .octets) 0 (conditionLength ty id c) }
 
-unfoldable pub readFilter : ℕ → List Condition → List Condition
-readFilter id [] = []
-readFilter id (c ∷ cs) = readCondition id c ∷ readFilter (suc id) cs
+-- those from an ID on
+unfoldable pub readFilter : ℕ → ℕ → List Condition → List Condition
+readFilter ty id [] = []
+readFilter ty id (c ∷ cs) = readCondition ty id c ∷ readFilter ty (suc id) cs
 
--- how many conditions are present
-unfoldable pub present : List Condition → ℕ
-present [] = 0
-present (c ∷ cs) = (if c .present then 1 else 0) + present cs
+-- how many of them are written
+unfoldable pub writtenConditions : ℕ → ℕ → List Condition → ℕ
+writtenConditions ty id [] = 0
+writtenConditions ty id (c ∷ cs) = (if eqb (conditionLength ty id c) 0 then 0 else 1) + writtenConditions ty (suc id) cs
 
--- an event has a limit, and conditions where its type is 0; a diagnostic has a timeout
+-- an event has a limit, and the conditions of its type; a diagnostic has a timeout
 unfoldable pub readElement : Kind → Element → Element
 readElement Event e = record {
   token = e .token;
   ty = e .ty;
   limit = e .limit;
-  subs = if eqb (e .ty) 0 then present (e .filter) else 0;
+  subs = writtenConditions (e .ty) 0 (e .filter);
   timeout = 0;
-  filter = if eqb (e .ty) 0 then readFilter 0 (e .filter) else noFilter;
+  filter = readFilter (e .ty) 0 (e .filter);
 }
 readElement Diagnostic e = record { token = e .token; ty = e .ty; limit = 0; subs = 0; timeout = e .timeout; filter = noFilter }
 
@@ -57,12 +61,12 @@ readBack kind dialog es count = record {
 }
 
 -- the lengths of the arrays inside an element, which code has by their types
-abbrev pub SixOctets : Condition → Type 0
-SixOctets c = length (c .octets) ≡ 6
+abbrev pub EightOctets : Condition → Type 0
+EightOctets c = length (c .octets) ≡ 8
 
 pub record ElementLengths (e : Element) : Type 0 where
   pub filter : length (e .filter) ≡ 5
-  pub octets : All SixOctets (e .filter)
+  pub octets : All EightOctets (e .filter)
 
 -- for every input that the writer accepts, whatever the lent buffer s, the reader reads the octets written to the same fields
 abbrev pub RequestRoundTrip : Type 0

@@ -19,7 +19,7 @@ ghost use mathlib.Core.Path.{_≡_};
 ghost use Prim.Native.Nat.{_≤_, _<_};
 ghost use lib.ListN.{length, take};
 ghost use Rattle.laws.specs.Buffers.{onto};
-ghost use Rattle.request_writer.specs.Frames.{conditionOctets, filterOctets, elementOctets, elementsOctets};
+ghost use Rattle.request_writer.specs.Frames.{conditionLength, conditionOctets, filterOctets, elementOctets, elementsOctets};
 ghost use Rattle.request_writer.specs.Writer.{refusedWritten, writtenLength, elementsAnswer, frameAnswer, outcome, writeRequest};
 ghost use Rattle.request_writer.specs.ReadBack.{echoed};
 
@@ -29,32 +29,53 @@ pub struct Written {
     pub length: usize,
 }
 
-// A condition at the front of a buffer; its length.
-fn put_condition(buf: &mut [u8], id: usize, c: Condition) -> usize
-    requires { ⌜ (id < 5) × (length (conditionOctets id c) ≤ length (now buf)) ⌝ }
-    ensures { λ r. ⌜ r ≡ length (conditionOctets id c) ⌝ }
-    ensures { λ _. ⌜ now (buf .exit) ≡ onto (conditionOctets id c) (now (buf .entry)) ⌝ }
+// How many octets of a condition are written.
+fn condition_length(ty: usize, id: usize, c: Condition) -> usize
+    ensures { λ r. ⌜ (r ≡ conditionLength ty id c) × (r ≤ 8) ⌝ }
 {
     if !c.present {
         return 0;
     }
-    let n = length_of(id);
+    length_of(ty, id, c.octets[0])
+}
+
+// A condition at the front of a buffer; its length.
+fn put_condition(buf: &mut [u8], ty: usize, id: usize, c: Condition) -> usize
+    requires { ⌜ (id < 5) × (length (conditionOctets ty id c) ≤ length (now buf)) ⌝ }
+    ensures { λ r. ⌜ r ≡ length (conditionOctets ty id c) ⌝ }
+    ensures { λ _. ⌜ now (buf .exit) ≡ onto (conditionOctets ty id c) (now (buf .entry)) ⌝ }
+{
+    let n = condition_length(ty, id, c);
+    if n == 0 {
+        return 0;
+    }
     let o = c.octets;
-    let octets = [id as u8, n as u8, o[0], o[1], o[2], o[3], o[4], o[5]];
+    let octets = [
+        id as u8,
+        n as u8,
+        o[0],
+        o[1],
+        o[2],
+        o[3],
+        o[4],
+        o[5],
+        o[6],
+        o[7],
+    ];
     bytes::copy(&octets[..2 + n], buf)
 }
 
-// The conditions, in rising ID order.
-fn put_filter(buf: &mut [u8], filter: [Condition; 5]) -> usize
-    requires { ⌜ length (filterOctets filter) ≤ length (now buf) ⌝ }
-    ensures { λ r. ⌜ (r ≡ length (filterOctets filter)) × (r ≤ 28) ⌝ }
-    ensures { λ _. ⌜ now (buf .exit) ≡ onto (filterOctets filter) (now (buf .entry)) ⌝ }
+// The conditions of an event type, in rising ID order.
+fn put_filter(buf: &mut [u8], ty: usize, filter: [Condition; 5]) -> usize
+    requires { ⌜ length (filterOctets ty filter) ≤ length (now buf) ⌝ }
+    ensures { λ r. ⌜ (r ≡ length (filterOctets ty filter)) × (r ≤ 28) ⌝ }
+    ensures { λ _. ⌜ now (buf .exit) ≡ onto (filterOctets ty filter) (now (buf .entry)) ⌝ }
 {
     let mut at: usize = 0;
     let mut id: usize = 0;
     while id < 5 {
         let c = filter[id];
-        at += put_condition(&mut buf[at..], id, c);
+        at += put_condition(&mut buf[at..], ty, id, c);
         id += 1;
     }
     at
@@ -65,14 +86,15 @@ fn put_event(buf: &mut [u8], e: Element) -> usize
     ensures { λ r. ⌜ (r ≡ length (elementOctets Kind.Event e)) × (r ≤ 33) ⌝ }
     ensures { λ _. ⌜ now (buf .exit) ≡ onto (elementOctets Kind.Event e) (now (buf .entry)) ⌝ }
 {
-    let id = Kind::Event.request_id();
-    if e.ty != 0 {
-        let octets = [id, 3, e.token, e.ty, e.limit];
-        return bytes::copy(&octets, buf);
-    }
     let filter = e.filter;
-    let n = put_filter(&mut buf[5..], filter);
-    let octets = [id, (3 + n) as u8, e.token, e.ty, e.limit];
+    let n = put_filter(&mut buf[5..], e.ty as usize, filter);
+    let octets = [
+        Kind::Event.request_id(),
+        (3 + n) as u8,
+        e.token,
+        e.ty,
+        e.limit,
+    ];
     bytes::copy(&octets, buf);
     5 + n
 }

@@ -30,22 +30,22 @@ Listed n = Among n causes
 abbrev Subs : Subelements → Type 0
 Subs w = Listed (w .refusal .number)
 
-sub-listed : (s : List ℕ) (known end : ℕ) (w : Subelements) → Subs (subelementStep s known end w)
+sub-listed : (s : List ℕ) (ty end : ℕ) (w : Subelements) → Subs (subelementStep s ty end w)
 unfolding subelementStep wholeStep
-sub-listed s known end w =
+sub-listed s ty end w =
     either Subs _ _ _ (λ _. among-test 7 causes refl)
     (λ _. either Subs _ _ _ (λ _. first)
     (λ _. either Subs _ _ _ (λ _. among-test 7 causes refl)
     (λ _. either Subs _ _ _ (λ _. among-test 8 causes refl) (λ _. first))))
 
-walk-listed : (s : List ℕ) (known from end : ℕ) → Subs (walk s known from end)
+walk-listed : (s : List ℕ) (ty from end : ℕ) → Subs (walk s ty from end)
 unfolding walk
-walk-listed s known from end = keeps Subs _ _ (λ w _. sub-listed s known end w) end (walked noRefusal from) first
+walk-listed s ty from end = keeps Subs _ _ (λ w _. sub-listed s ty end w) end (walked noRefusal from) first
 
 subelements-listed : (s : List ℕ) (kind : Kind) (at end : ℕ) → Subs (subelementsOf s kind at end)
 unfolding subelementsOf
-subelements-listed s Event at end = either Subs _ _ _ (λ _. walk-listed s 5 _ end) (λ _. first)
-subelements-listed s Diagnostic at end = walk-listed s 0 _ end
+subelements-listed s Event at end = either Subs _ _ _ (λ _. walk-listed s _ _ end) (λ _. first)
+subelements-listed s Diagnostic at end = walk-listed s _ _ end
 
 -- ---- elements
 

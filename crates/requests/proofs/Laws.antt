@@ -4,7 +4,7 @@ use Prim.Native.Nat.{ℕ, _+_, _-_, _≤_, _<_}
 use mathlib.Core.Path.{_≡_, refl, ap, _∙_}
 use mathlib.Core.Bool.{Bool, true, false}
 use mathlib.Core.List.{List}
-use lib.Dec.{eqb}
+use lib.Dec.{ltb}
 use lib.ListN.{length, getD, set, take, drop, length-set, drop-of-length-le}
 use borrow.Author.Tests.{eq-eqb, ne-eqb, eqb-true, eqb-false, le-leb, lt-leb, lt-ltb, le-ltb, not-false}
 use native.Mathlib.Omega.{arith}
@@ -22,17 +22,17 @@ use Rattle.octets.proofs.FrameLaws.{head-length}
 use Rattle.octets.proofs.ElementLaws.{Ends, piece-ends}
 use Rattle.subelements.specs.declared.Condition.{Condition}
 use Rattle.subelements.specs.declared.Subelements.{Subelements}
-use Rattle.subelements.specs.Subelements.{walked, refusedWalk, past, wholeStep, subelementStep, knownOf, walk}
+use Rattle.subelements.specs.Subelements.{walked, refusedWalk, past, wholeStep, subelementStep, tables, walk}
 use Rattle.subelements.proofs.Laws.{walk-at-end}
 use Rattle.requests.specs.declared.Element.{Element}
 use Rattle.requests.specs.declared.Request.{Request}
-use Rattle.requests.specs.Elements.{elementCapacity, pastElements, leastBody, subelementsOf, elementOf, blankElements, hasToken, badToken, ElementWalk, refusedElements, withElement, ownRequestStep, elementStep, moreElements, walkElements}
+use Rattle.requests.specs.Elements.{elementCapacity, pastElements, leastBody, tableOf, subelementsOf, elementOf, blankElements, hasToken, badToken, ElementWalk, refusedElements, withElement, ownRequestStep, elementStep, moreElements, walkElements}
 use Rattle.requests.specs.Internal.{subelementsStart}
 use Rattle.requests.specs.Requests.{refusedRequest, lacksElement, requestOf, headerCause}
 
 -- ---- the number of subelements: an element of at most 255 octets has fewer than 256
 
-module _ (s : List ℕ) (known from end : ℕ) where
+module _ (s : List ℕ) (ty from end : ℕ) where
   record Few (w : Subelements) : Type 0 where
     few : w .count ≤ end - from
     behind : w .refusal .number ≡ 0 → from + w .count ≤ w .at
@@ -43,7 +43,7 @@ module _ (s : List ℕ) (known from end : ℕ) where
   past-few : (w : Subelements) (next : ℕ) (f : List Condition) → Ends s (w .at) end next → from + w .count ≤ w .at → Few (past w next f)
   past-few w next f h p = record { few = omega (arith, h .is, h .within); behind = λ _. omega (arith, h .is) }
 
-  whole-few : (w : Subelements) (next : ℕ) → Ends s (w .at) end next → from + w .count ≤ w .at → Few (wholeStep s known w next)
+  whole-few : (w : Subelements) (next : ℕ) → Ends s (w .at) end next → from + w .count ≤ w .at → Few (wholeStep s ty w next)
   unfolding wholeStep
   whole-few w next h p =
       either Few _ _ _ (λ _. past-few w next _ h p)
@@ -51,32 +51,36 @@ module _ (s : List ℕ) (known from end : ℕ) where
       (λ _. either Few _ _ _ (λ _. refused-few 8 _ (omega arith))
       (λ _. past-few w next _ h p)))
 
-  step-few : (w : Subelements) → w .refusal .number ≡ 0 → Few w → Few (subelementStep s known end w)
+  step-few : (w : Subelements) → w .refusal .number ≡ 0 → Few w → Few (subelementStep s ty end w)
   unfolding subelementStep
   step-few w z p =
       either Few _ _ _ (λ _. refused-few 7 _ (omega arith))
       (λ h. whole-few w _ (piece-ends s (w .at) end (eqb-false _ _ h)) (p .behind z))
 
-  pub walk-few : walk s known from end .count ≤ end - from
+  pub walk-few : walk s ty from end .count ≤ end - from
   unfolding walk
   walk-few =
       keeps-while Few _ _ (λ w m p. step-few w (eqb-true _ 0 (and-first _ _ m)) p) end (walked noRefusal from) (record { few = omega arith; behind = λ _. omega arith }) .few
 
 -- the walk from where they start
-pub subelements-from : (s : List ℕ) (kind : Kind) (at end : ℕ) → walk s (knownOf kind) (subelementsStart s kind at end) end ≡ subelementsOf s kind at end
+pub subelements-from : (s : List ℕ) (kind : Kind) (at end : ℕ)
+    → walk s (tableOf kind (getD s (at + 3) 0)) (subelementsStart s kind at end) end ≡ subelementsOf s kind at end
 unfolding subelementsOf subelementsStart if_then_else_
-subelements-from s Event at end = go (eqb (getD s (at + 3) 0) 0)
+subelements-from s Event at end = go (ltb (getD s (at + 3) 0) tables)
   where
-    go : (b : Bool) → walk s 5 (if b then at + 5 else end) end ≡ (if b then walk s 5 (at + 5) end else walked noRefusal end)
+    ty : ℕ
+    ty = getD s (at + 3) 0
+
+    go : (b : Bool) → walk s ty (if b then at + 5 else end) end ≡ (if b then walk s ty (at + 5) end else walked noRefusal end)
     go true = refl
-    go false = walk-at-end s 5 end
+    go false = walk-at-end s ty end
 subelements-from s Diagnostic at end = refl
 
 pub subelements-few : (s : List ℕ) (kind : Kind) (at end : ℕ) → end ≤ at + 257 → subelementsOf s kind at end .count < 256
 unfolding subelementsOf
 subelements-few s Event at end h =
-    either (λ (w : Subelements). w .count < 256) _ _ _ (λ _. omega (arith, walk-few s 5 (at + 5) end)) (λ _. omega arith)
-subelements-few s Diagnostic at end h = omega (arith, walk-few s 0 (at + 6) end)
+    either (λ (w : Subelements). w .count < 256) _ _ _ (λ _. omega (arith, walk-few s (getD s (at + 3) 0) (at + 5) end)) (λ _. omega arith)
+subelements-few s Diagnostic at end h = omega (arith, walk-few s tables (at + 6) end)
 
 -- ---- tokens: what is left of the first n elements, from i on
 

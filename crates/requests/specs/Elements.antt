@@ -16,7 +16,7 @@ use Rattle.octets.specs.Numbers.{requestId}
 use Rattle.octets.specs.Fields.{pairAt}
 use Rattle.octets.specs.Elements.{pieceEnd}
 use Rattle.subelements.specs.declared.Subelements.{Subelements}
-use Rattle.subelements.specs.Subelements.{noFilter, walked, walk}
+use Rattle.subelements.specs.Subelements.{noFilter, walked, tables, walk}
 use Rattle.requests.specs.declared.Element.{Element}
 
 -- ---- the fields of one element, whose header stands at a position
@@ -34,11 +34,15 @@ abbrev pub timeoutAt : List ℕ → Kind → ℕ → ℕ
 timeoutAt s Event at = 0
 timeoutAt s Diagnostic at = pairAt s (at + 4)
 
--- subelements "are read only where the event type is 0; other event bodies are not read past the limit. In diagnostics the subelements
--- are walked for their edges only."
+-- the type whose table an element's subelements are held to: "In diagnostics the subelements are walked for their edges only."
+abbrev pub tableOf : Kind → ℕ → ℕ
+tableOf Event ty = ty
+tableOf Diagnostic ty = tables
+
+-- "other event bodies are not read past the limit"
 unfoldable pub subelementsOf : List ℕ → Kind → ℕ → ℕ → Subelements
-subelementsOf s Event at end = if eqb (getD s (at + 3) 0) 0 then walk s 5 (at + 5) end else walked noRefusal end
-subelementsOf s Diagnostic at end = walk s 0 (at + 6) end
+subelementsOf s Event at end = if ltb (getD s (at + 3) 0) tables then walk s (getD s (at + 3) 0) (at + 5) end else walked noRefusal end
+subelementsOf s Diagnostic at end = walk s tables (at + 6) end
 
 abbrev pub elementOf : List ℕ → Kind → ℕ → Subelements → Element
 elementOf s kind at subs = record {

@@ -11,11 +11,12 @@ use octets::piece_end;
 use octets::size;
 use subelements::Condition;
 use subelements::Subelements;
-use subelements::walk_request;
+use subelements::TABLES;
+use subelements::walk;
 ghost use mathlib.Core.Path.{_≡_};
 ghost use Prim.Native.Nat.{_+_, _≤_, _<_};
 ghost use lib.ListN.{length, getD, take};
-ghost use Rattle.requests.specs.Elements.{elementCapacity, leastBody, limitAt, timeoutAt, subelementsOf, elementOf, blankElement, blankElements, hasToken, zeroToken, badToken, walkElements};
+ghost use Rattle.requests.specs.Elements.{elementCapacity, leastBody, limitAt, timeoutAt, tableOf, subelementsOf, elementOf, blankElement, blankElements, hasToken, zeroToken, badToken, walkElements};
 ghost use Rattle.requests.specs.Internal.{subelementsStart};
 ghost use Rattle.requests.specs.Requests.{refusedRequest, lacksElement, requestOf, headerCause, readRequest};
 
@@ -23,7 +24,8 @@ ghost use Rattle.requests.specs.Requests.{refusedRequest, lacksElement, 
 pub const ELEMENT_CAPACITY: usize = 8;
 
 // One request element: its token and type (ty), the response limit of an event, the timeout in
-// seconds of a diagnostic, the number of subelements walked, and the conditions of event type 0.
+// seconds of a diagnostic, the number of subelements walked, and the conditions of an event
+// type that has a table.
 // What the kind of the frame does not have is 0. The fields lie without a gap: blank elements are then
 // one run of zeros.
 #[repr(C)]
@@ -81,7 +83,7 @@ fn event_start(s: &[u8], at: usize, end: usize) -> usize
     requires { ⌜ at < 2304 ⌝ }
     ensures { λ r. ⌜ r ≡ subelementsStart (now (s .entry)) Kind.Event at end ⌝ }
 {
-    if octet(s, at + 3) == 0 {
+    if size(s, at + 3) < TABLES {
         return at + 5;
     }
     end
@@ -97,13 +99,24 @@ fn subelements_start(s: &[u8], kind: Kind, at: usize, end: usize) -> usize
     }
 }
 
+// The type whose table the subelements are held to; a diagnostic's to none.
+fn table_of(kind: Kind, ty: u8) -> usize
+    ensures { λ r. ⌜ r ≡ tableOf kind ty ⌝ }
+{
+    match kind {
+        Kind::Event => ty as usize,
+        Kind::Diagnostic => TABLES,
+    }
+}
+
 // The subelements of an element from at to end. One call of the walk for all: the compiler then makes
 // the filter where the element is.
 fn subelements_of(s: &[u8], kind: Kind, at: usize, end: usize) -> Subelements
     requires { ⌜ (at < 2304) × (end ≤ at + 257) ⌝ }
     ensures { λ r. ⌜ (r ≡ subelementsOf (now (s .entry)) kind at end) × (r .count < 256) ⌝ }
 {
-    walk_request(s, kind, subelements_start(s, kind, at, end), end)
+    let ty = table_of(kind, octet(s, at + 3));
+    walk(s, ty, subelements_start(s, kind, at, end), end)
 }
 
 fn element_of(s: &[u8], kind: Kind, at: usize, subs: Subelements) -> Element
@@ -170,7 +183,7 @@ pub fn blank_element() -> Element
         timeout: 0,
         filter: [Condition {
             present: false,
-            octets: [0; 6],
+            octets: [0; 8],
         }; 5],
     }
 }

@@ -1,41 +1,65 @@
 -- The elements of a request writer's record: "token (1), type (1), limit or timeout (2; a limit is below 256), number of conditions (1), each
--- with ID (1, 0 to 4, rising), length (1, as document 01 has it), octets".
+-- with ID (1, .. rising), length (1, ..), octets".
 -- Assumes nothing.
 use Prim.Native.Nat.{ℕ, zero, suc, _+_, _%_}
-use mathlib.Core.Bool.{Bool, false, not}
+use mathlib.Core.Bool.{Bool, true, false, not}
 use mathlib.Core.List.{List}
-use lib.ListN.{length, getD, set}
+use lib.ListN.{getD, set}
 use lib.Dec.{eqb, ltb}
 use Rattle.laws.specs.Choice.{if_then_else_}
 use Rattle.octets.specs.declared.numbers.Kind.{Kind}
 use Rattle.octets.specs.declared.numbers.Kind.the-variants.{Event, Diagnostic}
 use Rattle.octets.specs.Fields.{pairAt}
-use Rattle.octets.specs.Elements.{pieceEnd}
 use Rattle.subelements.specs.declared.Condition.{Condition}
-use Rattle.subelements.specs.declared.Subelements.{Subelements}
-use Rattle.subelements.specs.Subelements.{walk}
+use Rattle.subelements.specs.Subelements.{rowOf, bodyAt, noFilter, tables}
 use Rattle.requests.specs.declared.Element.{Element}
 use Rattle.requests.specs.Elements.{blankElement, blankElements}
+use Rattle.traces.specs.declared.elements.Conditions.{Conditions}
 use Rattle.traces.specs.declared.elements.Recorded.{Recorded}
 use Rattle.traces.specs.declared.elements.Elements.{Elements}
 use Rattle.traces.specs.Places.{placeBehindRecord}
 
-abbrev pub refusedElement : Recorded
-refusedElement = record { end = 0; element = blankElement }
+-- ---- conditions
 
--- a condition: its ID is not below the least one, and is one of document 01's
-unfoldable pub conditionEnd : List ℕ → ℕ → ℕ → ℕ
-conditionEnd s at least =
+-- the event type whose table they follow: "every other element keeps document 01's"
+unfoldable pub conditionTable : Kind → ℕ → ℕ
+conditionTable Event ty = if ltb ty tables then ty else 0
+conditionTable Diagnostic ty = 0
+
+-- a condition's length, "the EAP method always as eight octets"; 0: no condition has the ID
+abbrev pub tracedLength : ℕ → ℕ → ℕ
+tracedLength ty id = rowOf ty id .expanded
+
+-- where one ends: its ID is not below the least one, and it has the length of its ID
+unfoldable pub conditionEnd : List ℕ → ℕ → ℕ → ℕ → ℕ
+conditionEnd s ty at least =
+    let n = tracedLength ty (getD s at 0) in
     if ltb (getD s at 0) least then 0
-    else if ltb 4 (getD s at 0) then 0
-    else pieceEnd s at (length s)
+    else if eqb n 0 then 0
+    else if not (eqb (getD s (at + 1) 0) n) then 0
+    else placeBehindRecord s at (2 + n)
 
--- so many, with rising IDs
-unfoldable pub conditionsEnd : List ℕ → ℕ → ℕ → ℕ → ℕ
-conditionsEnd s zero at least = at
-conditionsEnd s (suc k) at least =
-    if eqb (conditionEnd s at least) 0 then 0
-    else conditionsEnd s k (conditionEnd s at least) (getD s at 0 + 1)
+unfoldable pub tracedCondition : List ℕ → ℕ → ℕ → Condition
+tracedCondition s ty at = record { present = true; octets = bodyAt s (at + 2) (tracedLength ty (getD s at 0)) }
+
+-- one more, with an ID above those before it
+unfoldable pub withCondition : List ℕ → ℕ → Conditions → Conditions
+withCondition s ty w =
+    let id = getD s (w .end) 0 in
+    record { end = conditionEnd s ty (w .end) (w .least); least = id + 1; filter = set (w .filter) id (tracedCondition s ty (w .end)) }
+
+-- so many more
+unfoldable pub moreConditions : List ℕ → ℕ → ℕ → Conditions → Conditions
+moreConditions s ty zero w = w
+moreConditions s ty (suc k) w = moreConditions s ty k (withCondition s ty w)
+
+abbrev pub startedConditions : ℕ → Conditions
+startedConditions from = record { end = from; least = 0; filter = noFilter }
+
+abbrev pub conditionsAt : List ℕ → ℕ → ℕ → ℕ → Conditions
+conditionsAt s ty count from = moreConditions s ty count (startedConditions from)
+
+-- ---- elements
 
 -- "a limit is below 256"
 abbrev pub badValue : Kind → ℕ → Bool
@@ -50,7 +74,6 @@ abbrev pub timeoutOf : Kind → ℕ → ℕ
 timeoutOf Event value = 0
 timeoutOf Diagnostic value = value
 
--- the element whose conditions stand from a position to its end
 abbrev pub tracedElement : List ℕ → Kind → ℕ → List Condition → Element
 tracedElement s kind at filter =
     record {
@@ -62,20 +85,17 @@ tracedElement s kind at filter =
       filter = filter;
     }
 
--- "length (as document 01 has it)": as the walker of conditions has it
-unfoldable pub walkedElement : List ℕ → Kind → ℕ → ℕ → Subelements → Recorded
-walkedElement s kind at end w =
-    if eqb end 0 then refusedElement
-    else if not (eqb (w .refusal .number) 0) then refusedElement
-    else record { end = end; element = tracedElement s kind at (w .filter) }
+abbrev pub refusedElement : Recorded
+refusedElement = record { end = 0; element = blankElement }
 
 unfoldable pub tracedElementAt : List ℕ → Kind → ℕ → Recorded
 tracedElementAt s kind at =
     let from = placeBehindRecord s at 5 in
-    let end = conditionsEnd s (getD s (at + 4) 0) from 0 in
+    let conditions = conditionsAt s (conditionTable kind (getD s (at + 1) 0)) (getD s (at + 4) 0) from in
     if eqb from 0 then refusedElement
     else if badValue kind (pairAt s (at + 2)) then refusedElement
-    else walkedElement s kind at end (walk s 5 from end)
+    else if eqb (conditions .end) 0 then refusedElement
+    else record { end = conditions .end; element = tracedElement s kind at (conditions .filter) }
 
 -- one more, kept where it is one of the first eight
 unfoldable pub withTraced : Elements → ℕ → Recorded → Elements

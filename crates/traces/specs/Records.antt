@@ -12,11 +12,13 @@ use Rattle.octets.specs.Addresses.{addressAt}
 use Rattle.octets.specs.Times.{timeAt}
 use Rattle.units.specs.declared.Milliseconds.{Milliseconds}
 use Rattle.events.specs.declared.Transition.{Transition}
+use Rattle.events.specs.declared.PeerLink.{PeerLink}
 use Rattle.traces.specs.declared.calls.Span.{Span}
 use Rattle.traces.specs.declared.calls.SetupCall.{SetupCall}
 use Rattle.traces.specs.declared.calls.FrameCall.{FrameCall}
 use Rattle.traces.specs.declared.calls.ReportCall.{ReportCall}
 use Rattle.traces.specs.declared.calls.MoveCall.{MoveCall}
+use Rattle.traces.specs.declared.calls.RsnaCall.{RsnaCall}
 use Rattle.traces.specs.declared.calls.WriterCall.{WriterCall}
 use Rattle.traces.specs.declared.calls.ReaderCall.{ReaderCall}
 use Rattle.traces.specs.Places.{placeBehindRecord, badLength, octetsEnd, listEnd}
@@ -57,6 +59,12 @@ fieldsEnd s number at =
     -- "`05` move, `06` network change: reading (4), number of addresses (1), addresses"
     else if eqb number 5 then listEnd s (placeBehindRecord s at 4)
     else if eqb number 6 then listEnd s (placeBehindRecord s at 4)
+    -- "`07` logs an RSNA event: reading (4), time (9), target (6), authentication type (4), EAP method (8), result (1), RSN element's length
+    -- (2), RSN element"
+    else if eqb number 7 then octetsEnd s (placeBehindRecord s at 32)
+    -- "`08` logs a peer link event: reading (4), time (9), peer address (6), regulatory class (1), channel (1), transmit power (1), connection
+    -- time (3), peer status (1)"
+    else if eqb number 8 then placeBehindRecord s at 26
     else if eqb number 16 then writerCallEnd s at
     -- "`11` report reader: destination (6), length (2), octets"
     else if eqb number 17 then octetsEnd s (placeBehindRecord s at 6)
@@ -126,6 +134,32 @@ reportFields s at =
 
 unfoldable pub moveFields : List ℕ → ℕ → MoveCall
 moveFields s at = record { reading = millisecondsAt s at; count = getD s (at + 4) 0; list = at + 5 }
+
+unfoldable pub rsnaFields : List ℕ → ℕ → RsnaCall
+rsnaFields s at =
+    record {
+      event =
+          record {
+            time = timeAt s (at + 4);
+            target = addressAt s (at + 13);
+            authentication = octetsAt s (at + 19) 4;
+            method = octetsAt s (at + 23) 8;
+            result = getD s (at + 31) 0;
+          };
+      rsn = spanAt s (at + 32);
+    }
+
+unfoldable pub peerLinkFields : List ℕ → ℕ → PeerLink
+peerLinkFields s at =
+    record {
+      time = timeAt s (at + 4);
+      peer = addressAt s (at + 13);
+      class = getD s (at + 19) 0;
+      channel = getD s (at + 20) 0;
+      power = getD s (at + 21) 0;
+      connection = octetsAt s (at + 22) 3;
+      status = getD s (at + 25) 0;
+    }
 
 unfoldable pub writerFields : List ℕ → ℕ → WriterCall
 writerFields s at =

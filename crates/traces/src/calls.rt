@@ -1,4 +1,6 @@
 // The fields of each record; octets past the end of the input are 0.
+use events::PeerLink;
+use events::RsnaEvent;
 use events::Transition;
 use octets::Kind;
 use octets::address_at;
@@ -12,7 +14,7 @@ ghost use mathlib.Core.Path.{_≡_};
 ghost use Prim.Native.Nat.{_+_, _≤_};
 ghost use lib.ListN.{length};
 ghost use Rattle.octets.specs.Fields.{octetsAt};
-ghost use Rattle.traces.specs.Records.{fieldsOf, millisecondsAt, addressesAt, spanAt, setupFields, transitionFields, frameFields, reportFields, moveFields, writerFields, readerFields};
+ghost use Rattle.traces.specs.Records.{fieldsOf, millisecondsAt, addressesAt, spanAt, setupFields, transitionFields, frameFields, reportFields, moveFields, rsnaFields, peerLinkFields, writerFields, readerFields};
 
 // Octets of the input, from one position to another.
 pub struct Span {
@@ -50,6 +52,11 @@ pub struct MoveCall {
     pub list: usize,
 }
 
+pub struct RsnaCall {
+    pub event: RsnaEvent,
+    pub rsn: Span,
+}
+
 // The elements stand at a position.
 pub struct WriterCall {
     pub length: u16,
@@ -84,17 +91,34 @@ fn milliseconds_at(s: &[u8], at: usize) -> Milliseconds
     Milliseconds((pair_at(s, at) as u32) + 65536 * (pair_at(s, at + 2) as u32))
 }
 
-fn signals_at(s: &[u8], at: usize) -> [u8; 4]
+// So many octets at a position.
+fn three_at(s: &[u8], at: usize) -> [u8; 3]
+    ensures { λ r. ⌜ r ≡ octetsAt (now (s .entry)) at 3 ⌝ }
+{
+    let mut o = [0u8; 3];
+    read_at(s, at, &mut o);
+    o
+}
+
+fn four_at(s: &[u8], at: usize) -> [u8; 4]
     ensures { λ r. ⌜ r ≡ octetsAt (now (s .entry)) at 4 ⌝ }
 {
-    let mut signals = [0u8; 4];
-    read_at(s, at, &mut signals);
-    signals
+    let mut o = [0u8; 4];
+    read_at(s, at, &mut o);
+    o
+}
+
+fn eight_at(s: &[u8], at: usize) -> [u8; 8]
+    ensures { λ r. ⌜ r ≡ octetsAt (now (s .entry)) at 8 ⌝ }
+{
+    let mut o = [0u8; 8];
+    read_at(s, at, &mut o);
+    o
 }
 
 // A length and so many octets.
 fn span_at(s: &[u8], at: usize) -> Span
-    requires { ⌜ at ≤ length (now s) + 16 ⌝ }
+    requires { ⌜ at ≤ length (now s) + 32 ⌝ }
     ensures { λ r. ⌜ (r ≡ spanAt (now (s .entry)) at) × (r .to ≤ at + 65537) ⌝ }
 {
     let from = at + 2;
@@ -150,7 +174,6 @@ pub fn setup_at(s: &[u8], at: usize) -> SetupCall
     }
 }
 
-// The transition of a logging record.
 pub fn transition_at(s: &[u8], at: usize) -> Transition
     ensures { λ r. ⌜ r ≡ transitionFields (now (s .entry)) (fieldsOf (now (s .entry)) at) ⌝ }
 {
@@ -161,7 +184,7 @@ pub fn transition_at(s: &[u8], at: usize) -> Transition
         target: address_at(s, at + 19),
         reason: octet(s, at + 25),
         result: pair_at(s, at + 26),
-        signals: signals_at(s, at + 28),
+        signals: four_at(s, at + 28),
         departure: milliseconds_at(s, at + 32),
     }
 }
@@ -199,6 +222,37 @@ pub fn move_at(s: &[u8], at: usize) -> MoveCall
         reading: milliseconds_at(s, at),
         count: octet(s, at + 4),
         list: at + 5,
+    }
+}
+
+pub fn rsna_call_at(s: &[u8], at: usize) -> RsnaCall
+    ensures { λ r. ⌜ r ≡ rsnaFields (now (s .entry)) (fieldsOf (now (s .entry)) at) ⌝ }
+{
+    let at = fields(s, at);
+    RsnaCall {
+        event: RsnaEvent {
+            time: time_at(s, at + 4),
+            target: address_at(s, at + 13),
+            authentication: four_at(s, at + 19),
+            method: eight_at(s, at + 23),
+            result: octet(s, at + 31),
+        },
+        rsn: span_at(s, at + 32),
+    }
+}
+
+pub fn peer_link_at(s: &[u8], at: usize) -> PeerLink
+    ensures { λ r. ⌜ r ≡ peerLinkFields (now (s .entry)) (fieldsOf (now (s .entry)) at) ⌝ }
+{
+    let at = fields(s, at);
+    PeerLink {
+        time: time_at(s, at + 4),
+        peer: address_at(s, at + 13),
+        class: octet(s, at + 19),
+        channel: octet(s, at + 20),
+        power: octet(s, at + 21),
+        connection: three_at(s, at + 22),
+        status: octet(s, at + 25),
     }
 }
 

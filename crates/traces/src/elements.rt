@@ -3,16 +3,27 @@ use crate::places::behind;
 use octets::Kind;
 use octets::octet;
 use octets::pair_at;
-use octets::piece_end;
 use octets::size;
 use requests::ELEMENT_CAPACITY;
 use requests::Element;
 use requests::blank_element;
 use requests::blank_elements;
-use subelements::walk_request;
+use subelements::Condition;
+use subelements::TABLES;
+use subelements::body;
+use subelements::length_of;
 ghost use mathlib.Core.Path.{_≡_};
-ghost use lib.ListN.{set};
-ghost use Rattle.traces.specs.Elements.{refusedElement, conditionEnd, conditionsEnd, badValue, limitOf, timeoutOf, tracedElementAt, withTraced, elementsAt};
+ghost use Prim.Native.Nat.{_≤_};
+ghost use lib.ListN.{length, set};
+ghost use Rattle.traces.specs.Elements.{conditionTable, tracedLength, conditionEnd, tracedCondition, withCondition, conditionsAt, badValue, limitOf, timeoutOf, refusedElement, tracedElementAt, withTraced, elementsAt};
+
+// The first conditions of an element, and where they end; 0: refused. The next ID is not below the least
+// one.
+struct Conditions {
+    pub end: usize,
+    pub least: usize,
+    pub filter: [Condition; 5],
+}
 
 // One element, and where it ends; 0: refused.
 struct Recorded {
@@ -26,46 +37,100 @@ pub struct Elements {
     pub elements: [Element; ELEMENT_CAPACITY],
 }
 
-fn refused() -> Recorded
-    ensures { λ r. ⌜ r ≡ refusedElement ⌝ }
+// The event type whose table an element's conditions follow.
+fn condition_table(kind: Kind, ty: u8) -> usize
+    ensures { λ r. ⌜ r ≡ conditionTable kind ty ⌝ }
 {
-    Recorded {
-        end: 0,
-        element: blank_element(),
+    match kind {
+        Kind::Event => {
+            let ty = ty as usize;
+            if ty < TABLES { ty } else { 0 }
+        }
+        Kind::Diagnostic => 0,
     }
 }
 
-// A condition whose ID is not below the least one.
-fn condition_end(s: &[u8], at: usize, least: usize) -> usize
-    ensures { λ r. ⌜ r ≡ conditionEnd (now (s .entry)) at least ⌝ }
+// A condition's length: an EAP method is recorded in the length of one that starts with 254.
+fn traced_length(ty: usize, id: usize) -> usize
+    ensures { λ r. ⌜ (r ≡ tracedLength ty id) × (r ≤ 8) ⌝ }
+{
+    length_of(ty, id, 254)
+}
+
+// Where a condition ends whose ID is not below the least one.
+fn condition_end(s: &[u8], ty: usize, at: usize, least: usize) -> usize
+    requires { ⌜ at ≤ length (now s) ⌝ }
+    ensures { λ r. ⌜ r ≡ conditionEnd (now (s .entry)) ty at least ⌝ }
 {
     let id = size(s, at);
     if id < least {
         return 0;
     }
-    if 4 < id {
+    let n = traced_length(ty, id);
+    if n == 0 {
         return 0;
     }
-    piece_end(s, at, s.len())
+    if size(s, at + 1) != n {
+        return 0;
+    }
+    behind(s, at, 2 + n)
+}
+
+fn condition_at(s: &[u8], ty: usize, at: usize) -> Condition
+    requires { ⌜ at ≤ length (now s) ⌝ }
+    ensures { λ r. ⌜ r ≡ tracedCondition (now (s .entry)) ty at ⌝ }
+{
+    let n = traced_length(ty, size(s, at));
+    Condition {
+        present: true,
+        octets: body(s, at + 2, n),
+    }
+}
+
+// With a condition in the place of its ID, where it is one of the first five.
+fn hold(filter: [Condition; 5], id: usize, condition: Condition) -> [Condition; 5]
+    ensures { λ r. ⌜ r ≡ set filter id condition ⌝ }
+{
+    let mut filter = filter;
+    if 5 <= id {
+        return filter;
+    }
+    filter[id] = condition;
+    filter
+}
+
+fn with_condition(s: &[u8], ty: usize, w: Conditions) -> Conditions
+    requires { ⌜ w .end ≤ length (now s) ⌝ }
+    ensures { λ r. ⌜ r ≡ withCondition (now (s .entry)) ty w ⌝ }
+{
+    let at = w.end;
+    let filter = w.filter;
+    let id = size(s, at);
+    Conditions {
+        end: condition_end(s, ty, at, w.least),
+        least: id + 1,
+        filter: hold(filter, id, condition_at(s, ty, at)),
+    }
 }
 
 // So many conditions with rising IDs.
-fn conditions_end(s: &[u8], from: usize, count: u8) -> usize
-    ensures { λ r. ⌜ r ≡ conditionsEnd (now (s .entry)) count from 0 ⌝ }
+fn conditions_at(s: &[u8], ty: usize, count: u8, from: usize) -> Conditions
+    requires { ⌜ from ≤ length (now s) ⌝ }
+    ensures { λ r. ⌜ r ≡ conditionsAt (now (s .entry)) ty count from ⌝ }
 {
-    let mut at = from;
-    let mut least: usize = 0;
+    let blank = blank_element();
+    let filter = blank.filter;
+    let mut w = Conditions {
+        end: from,
+        least: 0,
+        filter,
+    };
     let mut i: u8 = 0;
     while i < count {
-        let next = condition_end(s, at, least);
-        if next == 0 {
-            return 0;
-        }
-        least = size(s, at) + 1;
-        at = next;
+        w = with_condition(s, ty, w);
         i += 1;
     }
-    at
+    w
 }
 
 // A limit is below 256.
@@ -96,6 +161,15 @@ fn timeout_of(kind: Kind, value: u16) -> u16
     }
 }
 
+fn refused() -> Recorded
+    ensures { λ r. ⌜ r ≡ refusedElement ⌝ }
+{
+    Recorded {
+        end: 0,
+        element: blank_element(),
+    }
+}
+
 // The element at a position: token, type, limit or timeout, conditions.
 fn element_at(s: &[u8], kind: Kind, at: usize) -> Recorded
     ensures { λ r. ⌜ r ≡ tracedElementAt (now (s .entry)) kind at ⌝ }
@@ -111,20 +185,17 @@ fn element_at(s: &[u8], kind: Kind, at: usize) -> Recorded
     if bad_value(kind, value) {
         return refused();
     }
-    let end = conditions_end(s, from, octet(s, at + 4));
-    if end == 0 {
+    let ty = octet(s, at + 1);
+    let conditions = conditions_at(s, condition_table(kind, ty), octet(s, at + 4), from);
+    if conditions.end == 0 {
         return refused();
     }
-    let w = walk_request(s, Kind::Event, from, end);
-    if w.refusal.number != 0 {
-        return refused();
-    }
-    let filter = w.filter;
+    let filter = conditions.filter;
     Recorded {
-        end,
+        end: conditions.end,
         element: Element {
             token: octet(s, at),
-            ty: octet(s, at + 1),
+            ty,
             limit: limit_of(kind, value),
             subs: 0,
             timeout: timeout_of(kind, value),

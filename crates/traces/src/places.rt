@@ -104,6 +104,8 @@ fn fields_end(s: &[u8], number: u8, at: usize) -> usize
         4 => report_call_end(s, at),
         5 => list_end(s, behind(s, at, 4)),
         6 => list_end(s, behind(s, at, 4)),
+        7 => octets_end(s, behind(s, at, 32)),
+        8 => behind(s, at, 26),
         16 => writer_call_end(s, at),
         17 => octets_end(s, behind(s, at, 6)),
         _ => 0,

@@ -31,6 +31,12 @@ roam-requires c κs = search needs
 change-network-requires : tie.Need-change-network-requires
 change-network-requires c κs = search needs
 
+log-rsna-requires : tie.Need-log-rsna-requires
+log-rsna-requires c κs = search needs
+
+log-peer-link-requires : tie.Need-log-peer-link-requires
+log-peer-link-requires c κs = search needs
+
 write-requires : tie.Need-write-requires
 write-requires c κs = search needs
 
@@ -67,13 +73,21 @@ returns-7 c = rw (← c .before .before .octet .ensures, c .before .match .keys7
 
 returns-8 : tie.Need-returns-8
 unfolding stationAfter if_then_else_
-returns-8 c = rw (← c .before .before .octet .ensures, c .before .match .keys8)
+returns-8 c = rw (← c .before .before .octet .ensures, c .before .match .keys8) (c .log-rsna .ensures)
 
 returns-9 : tie.Need-returns-9
 unfolding stationAfter if_then_else_
-returns-9 c =
+returns-9 c = rw (← c .before .before .octet .ensures, c .before .match .keys9) (c .log-peer-link .ensures)
+
+returns-10 : tie.Need-returns-10
+unfolding stationAfter if_then_else_
+returns-10 c = rw (← c .before .before .octet .ensures, c .before .match .keys10)
+
+returns-11 : tie.Need-returns-11
+unfolding stationAfter if_then_else_
+returns-11 c =
     let r = c .before .match .rest in
-    rw (← c .before .before .octet .ensures, ne-eqb _ 0 (r .0 .0 .0 .0 .0 .0 .0 .1), ne-eqb _ 1 (r .0 .0 .0 .0 .0 .0 .1), ne-eqb _ 2 (r .0 .0 .0 .0 .0 .1), ne-eqb _ 3 (r .0 .0 .0 .0 .1), ne-eqb _ 4 (r .0 .0 .0 .1), ne-eqb _ 5 (r .0 .0 .1), ne-eqb _ 6 (r .0 .1))
+    rw (← c .before .before .octet .ensures, ne-eqb _ 0 (r .0 .0 .0 .0 .0 .0 .0 .0 .0 .1), ne-eqb _ 1 (r .0 .0 .0 .0 .0 .0 .0 .0 .1), ne-eqb _ 2 (r .0 .0 .0 .0 .0 .0 .0 .1), ne-eqb _ 3 (r .0 .0 .0 .0 .0 .0 .1), ne-eqb _ 4 (r .0 .0 .0 .0 .0 .1), ne-eqb _ 5 (r .0 .0 .0 .0 .1), ne-eqb _ 6 (r .0 .0 .0 .1), ne-eqb _ 7 (r .0 .0 .1), ne-eqb _ 8 (r .0 .1))
 
 pub call-spec : {M : Type 1} → statement M
 call-spec =
@@ -87,6 +101,8 @@ call-spec =
     report-requires
     roam-requires
     change-network-requires
+    log-rsna-requires
+    log-peer-link-requires
     write-requires
     read-requires
     returns
@@ -97,4 +113,6 @@ call-spec =
     returns-6
     returns-7
     returns-8
-    returns-9)
+    returns-9
+    returns-10
+    returns-11)

@@ -3,7 +3,7 @@
 use Prim.Native.Nat.{_-_}
 use native.Mathlib.Omega.{arith}
 use lib.ListN.{length}
-use Rattle.report_reader.proofs.Laws.{goes-on}
+use Rattle.report_reader.proofs.Laws.{goes-on, found-extent}
 use borrow.Author.Needs.{needs}
 use Rattle.report_listing.proofs.Laws.{Listed, listed-start, listed-next, listed-end, accepted}
 use Rattle.report_listing.proofs.put_elements.Statement.{statement}
@@ -25,7 +25,7 @@ next-requires : tie.Need-next-requires Inv-loop μ-loop
 next-requires c κs = search needs
 
 put-step-requires : tie.Need-put-step-requires Inv-loop μ-loop
-put-step-requires c κs = search needs
+put-step-requires c κs f = found-extent _ _ _ _ (c .before .next .ensures) f .within
 
 loop-less : tie.Need-loop-less Inv-loop μ-loop
 loop-less c =

@@ -1,70 +1,65 @@
--- `report_listing::put_event` meets its contract.
+-- `report_listing::put_event` meets its contract: by the type number.
 -- Assumes nothing.
-use Rattle.texts.proofs.PutLaws.{short, both}
+use borrow.Author.Tests.{ne-eqb}
+use Rattle.laws.specs.Choice.{if_then_else_}
+use Rattle.report_reader.specs.Decoders.{decoded}
 use Rattle.report_listing.specs.Listing.{eventText}
 use borrow.Author.Needs.{needs}
 use Rattle.report_listing.proofs.put_event.Statement.{statement}
 use Rattle.report_listing.proofs.put_event.Tie as tie
 
-put-time-requires : tie.Need-put-time-requires
-put-time-requires c κs = search needs
+transition-in-requires : tie.Need-transition-in-requires
+transition-in-requires c κs = search needs
 
-slice-aggregate-put-address : tie.Need-slice-aggregate-put-address
-slice-aggregate-put-address c = search needs
+put-transition-requires : tie.Need-put-transition-requires
+put-transition-requires c κs = search needs
 
-put-address-requires : tie.Need-put-address-requires
-put-address-requires c κs = search needs
+rsna-in-requires : tie.Need-rsna-in-requires
+rsna-in-requires c κs = search needs
 
-slice-aggregate-put-address-2 : tie.Need-slice-aggregate-put-address-2
-slice-aggregate-put-address-2 c = search needs
+put-rsna-requires : tie.Need-put-rsna-requires
+put-rsna-requires c κs = search needs
 
-put-address-requires-2 : tie.Need-put-address-requires-2
-put-address-requires-2 c κs = search needs
+peer-link-in-requires : tie.Need-peer-link-in-requires
+peer-link-in-requires c κs = search needs
 
-slice-aggregate-put-pair : tie.Need-slice-aggregate-put-pair
-slice-aggregate-put-pair c = search needs
-
-put-pair-requires : tie.Need-put-pair-requires
-put-pair-requires c κs = search needs
-
-slice-aggregate-put-octet : tie.Need-slice-aggregate-put-octet
-slice-aggregate-put-octet c = search needs
-
-put-octet-requires : tie.Need-put-octet-requires
-put-octet-requires c κs = search needs
-
-slice-aggregate-put-pair-2 : tie.Need-slice-aggregate-put-pair-2
-slice-aggregate-put-pair-2 c = search needs
-
-put-pair-requires-2 : tie.Need-put-pair-requires-2
-put-pair-requires-2 c κs = search needs
-
-put-signals-requires : tie.Need-put-signals-requires
-put-signals-requires c κs = search needs
+put-peer-link-requires : tie.Need-put-peer-link-requires
+put-peer-link-requires c κs = search needs
 
 same-length : tie.Need-same-length
-same-length c = search (needs, c .before .before .before .before .before .before .before .before .before .before .before .before .before .before .before .before .before .before .before .before .before .before .before .before .before .before .before .before .before .before .before .put-time, c .before .before .before .before .before .before .before .before .before .before .before .before .before .before .before .before .before .before .before .before .before .before .before .before .before .before .put-address, c .before .before .before .before .before .before .before .before .before .before .before .before .before .before .before .before .before .before .before .before .before .put-address2, c .before .before .before .before .before .before .before .before .before .before .before .before .before .before .before .before .put-pair)
+same-length c = search needs
 
 returns : tie.Need-returns
-unfolding eventText
-returns c =
-    both (both (both (both (both (both (c .before .before .before .before .before .before .before .before .before .before .before .before .before .before .before .before .before .before .before .before .before .before .before .before .before .before .before .before .before .before .before .put-time .ensures) (c .before .before .before .before .before .before .before .before .before .before .before .before .before .before .before .before .before .before .before .before .before .before .before .before .before .before .put-address .ensures)) (c .before .before .before .before .before .before .before .before .before .before .before .before .before .before .before .before .before .before .before .before .before .put-address2 .ensures)) (short (c .before .before .before .before .before .before .before .before .before .before .before .before .before .before .before .before .put-pair .ensures))) (short (c .before .before .before .before .before .before .before .before .before .before .before .put-octet .ensures))) (short (c .before .before .before .before .before .before .put-pair2 .ensures))) (c .before .before .put-signals .ensures)
+unfolding decoded eventText if_then_else_
+returns c = rw (c .before .before .before .before .before .match .keys1, ← c .before .before .before .transition-in .ensures) (c .before .before .put-transition .ensures)
+
+same-length-2 : tie.Need-same-length-2
+same-length-2 c = search needs
+
+returns-2 : tie.Need-returns-2
+unfolding decoded eventText if_then_else_
+returns-2 c = rw (c .before .before .before .before .before .match .keys2, ← c .before .before .before .rsna-in .ensures) (c .before .before .put-rsna .ensures)
+
+same-length-3 : tie.Need-same-length-3
+same-length-3 c = search needs
+
+returns-3 : tie.Need-returns-3
+unfolding decoded eventText if_then_else_
+returns-3 c = rw (ne-eqb _ 0 (c .before .before .before .before .before .match .rest .0 .1), ne-eqb _ 1 (c .before .before .before .before .before .match .rest .1), ← c .before .before .before .peer-link-in .ensures) (c .before .before .put-peer-link .ensures)
 
 pub put-event-spec : {M : Type 1} → statement M
 put-event-spec =
     tie.close
     (tie.spec
-    put-time-requires
-    slice-aggregate-put-address
-    put-address-requires
-    slice-aggregate-put-address-2
-    put-address-requires-2
-    slice-aggregate-put-pair
-    put-pair-requires
-    slice-aggregate-put-octet
-    put-octet-requires
-    slice-aggregate-put-pair-2
-    put-pair-requires-2
-    put-signals-requires
+    transition-in-requires
+    put-transition-requires
+    rsna-in-requires
+    put-rsna-requires
+    peer-link-in-requires
+    put-peer-link-requires
     same-length
-    returns)
+    returns
+    same-length-2
+    returns-2
+    same-length-3
+    returns-3)

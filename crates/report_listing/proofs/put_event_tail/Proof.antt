@@ -18,7 +18,7 @@ same-length c = search needs
 
 returns : tie.Need-returns
 unfolding eventTail if_then_else_
-returns c = rw (c .before .before .before .before .before .if1 .taken) (c .before .before .put-event .ensures)
+returns c = rw (c .before .before .before .before .if1 .taken) (c .before .before .put-event .ensures)
 
 put-unread-requires : tie.Need-put-unread-requires
 put-unread-requires c κs = search needs

@@ -34,7 +34,7 @@ same-length-2 c = search needs
 
 returns-2 : tie.Need-returns-2
 unfolding tailText
-returns-2 c = rw (c .before .before .before .before .before .enum-told2 .given .1) (at-most _ (tail-most (c .before .before .before .before .before .before .before .before .args .e .logged)) (short (c .before .before .put-size .ensures)))
+returns-2 c = rw (c .before .before .before .before .before .enum-told2 .given .1) (at-most _ (tail-most (c .before .before .before .before .before .before .before .before .before .args .e .logged)) (short (c .before .before .put-size .ensures)))
 
 pub put-tail-spec : {M : Type 1} → statement M
 put-tail-spec =

@@ -1,6 +1,5 @@
 -- `report_reader::element_at` meets its contract.
 -- Assumes nothing.
-use native.Mathlib.Omega.{arith}
 use Rattle.report_reader.specs.Internal.{foundElement}
 use borrow.Author.Needs.{needs}
 use Rattle.report_reader.proofs.element_at.Statement.{statement}
@@ -30,15 +29,9 @@ add-t13 c = search needs
 sub-t14 : tie.Need-sub-t14
 sub-t14 c = search needs
 
-add-transition-at : tie.Need-add-transition-at
-add-transition-at c = search needs
-
-transition-at-requires : tie.Need-transition-at-requires
-transition-at-requires c κs e = let h = c .before .before .before .before .before .pre .event e in omega arith
-
 returns : tie.Need-returns
 unfolding foundElement
-returns c = rw (c .transition-at .ensures)
+returns c = search needs
 
 pub element-at-spec : {M : Type 1} → statement M
 element-at-spec =
@@ -52,6 +45,4 @@ element-at-spec =
     shared-slice-read-t12
     add-t13
     sub-t14
-    add-transition-at
-    transition-at-requires
     returns)

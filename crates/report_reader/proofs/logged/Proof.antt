@@ -9,12 +9,9 @@ use Rattle.report_reader.proofs.logged.Tie as tie
 none-requires : tie.Need-none-requires
 none-requires c κs = search needs
 
-add-t3 : tie.Need-add-t3
-add-t3 c = search needs
-
 returns : tie.Need-returns
 unfolding verdictOf loggedStep
-returns c s = rw (c .none .ensures)
+returns c s at n e = rw (c .none .ensures, e)
 
 pub logged-spec : {M : Type 1} → statement M
-logged-spec = tie.close (tie.spec none-requires add-t3 returns)
+logged-spec = tie.close (tie.spec none-requires returns)

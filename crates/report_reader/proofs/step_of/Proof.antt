@@ -20,14 +20,9 @@ returns : tie.Need-returns
 unfolding stepOf if_then_else_
 returns c = rw (c .before .none .ensures, c .element-at .ensures, c .before .before .if1 .taken)
 
-no-event-requires : tie.Need-no-event-requires
-no-event-requires c κs = search needs
-
 returns-2 : tie.Need-returns-2
 unfolding stepOf if_then_else_
-returns-2 c = rw (c .before .before .if1 .left, c .no-event .ensures)
+returns-2 c = rw (c .before .if1 .left)
 
 pub step-of-spec : {M : Type 1} → statement M
-step-of-spec =
-    tie.close
-    (tie.spec none-requires element-at-requires add-t8 returns no-event-requires returns-2)
+step-of-spec = tie.close (tie.spec none-requires element-at-requires add-t8 returns returns-2)

@@ -1,7 +1,7 @@
 -- `report_reader::validate_event` meets its contract: by length, status and type number.
 -- Assumes nothing.
 use native.Mathlib.Omega.{arith}
-use borrow.Author.Tests.{eq-eqb, ne-eqb}
+use borrow.Author.Tests.{eq-eqb, ne-eqb, lt-ltb, le-ltb}
 use Rattle.laws.specs.Choice.{if_then_else_}
 use Rattle.report_reader.specs.Reader.{bareStep, eventStep}
 use Rattle.report_reader.proofs.Laws.{short-event}
@@ -36,21 +36,21 @@ add-ty c = search needs
 shared-slice-read-ty : tie.Need-shared-slice-read-ty
 shared-slice-read-ty c = search needs
 
-validate-transition-requires : tie.Need-validate-transition-requires
-validate-transition-requires c κs = (c .before .before .before .before .if1 .left, omega (arith, c .before .before .before .before .before .before .pre))
+validate-typed-requires : tie.Need-validate-typed-requires
+validate-typed-requires c κs = search needs
 
 plain-requires-2 : tie.Need-plain-requires-2
 plain-requires-2 c κs = search needs
 
 returns-3 : tie.Need-returns-3
 unfolding eventStep if_then_else_
-returns-3 c = rw (eq-eqb _ 0 (c .before .before .before .if2 .left), eq-eqb _ 0 (c .before .match .keys1)) (c .validate-transition .ensures)
+returns-3 c = rw (eq-eqb _ 0 (c .before .before .before .if2 .left), lt-ltb _ _ (c .before .if3 .taken)) (c .validate-typed .ensures)
 
 returns-4 : tie.Need-returns-4
 unfolding eventStep if_then_else_
 returns-4 c =
     let a = c .before .before .before .before .before .before .before .args in
-    rw (eq-eqb _ 0 (c .before .before .before .if2 .left), ne-eqb _ 0 (c .before .match .rest .1)) (c .plain2 .ensures (a .s .now) (a .at) (a .n) (c .before .before .before .before .before .before .before .pre .1))
+    rw (eq-eqb _ 0 (c .before .before .before .if2 .left), le-ltb _ _ (c .before .if3 .left)) (c .plain2 .ensures (a .s .now) (a .at) (a .n) (c .before .before .before .before .before .before .before .pre .1))
 
 pub validate-event-spec : {M : Type 1} → statement M
 validate-event-spec =
@@ -64,7 +64,7 @@ validate-event-spec =
     returns-2
     add-ty
     shared-slice-read-ty
-    validate-transition-requires
+    validate-typed-requires
     plain-requires-2
     returns-3
     returns-4)

@@ -1,21 +1,33 @@
 -- `reports::put_event` meets its contract: head, time and body stand one behind the other.
 -- Assumes nothing.
 use native.Mathlib.Omega.{arith}
-use mathlib.Core.Path.{_≡_, refl, sym, ap, _∙_}
-use mathlib.Core.List.{_++_}
+use mathlib.Core.Path.{_≡_, sym}
 use lib.ListN.{length}
 use Rattle.laws.proofs.Buffers.{put-front-short}
-use Rattle.reports.proofs.Laws.{event-parts, event-length, put-three}
+use Rattle.events.specs.Log.{bodyCapacity}
+use Rattle.reports.proofs.Laws.{event-length, put-event-parts}
 use borrow.Author.Needs.{needs}
 use Rattle.reports.proofs.put_event.Statement.{statement}
 use Rattle.reports.proofs.put_event.Tie as tie
 
+cast-least : tie.Need-cast-least
+cast-least c = search needs
+
+least-requires : tie.Need-least-requires
+least-requires c κs = search needs
+
+add-if1 : tie.Need-add-if1
+add-if1 c = search needs
+
 returns : tie.Need-returns
 returns c =
-    let a = c .before .before .args in
+    let a = c .before .before .before .before .args in
     let t : length (a .entry .time) ≡ 9 = search needs in
-    let b : length (a .entry .body) ≡ 21 = search needs in
-    sym (put-front-short _ (a .buf .now) (omega (arith, event-length (a .token) (a .entry) t b)))
+    let b : length (a .entry .body) ≡ bodyCapacity = search needs in
+    sym (put-front-short _ (a .buf .now) (omega (arith, event-length (a .token) (a .entry) t b (c .before .least .result) (c .before .least .ensures))))
+
+add-head-of : tie.Need-add-head-of
+add-head-of c = search needs
 
 head-of-requires : tie.Need-head-of-requires
 head-of-requires c κs = search needs
@@ -32,36 +44,49 @@ slice-aggregate-put-2 c = search needs
 put-requires-2 : tie.Need-put-requires-2
 put-requires-2 c κs = search needs
 
-slice-aggregate-put-3 : tie.Need-slice-aggregate-put-3
-slice-aggregate-put-3 c = search needs
-
-put-requires-3 : tie.Need-put-requires-3
-put-requires-3 c κs = search needs
+put-transition-requires : tie.Need-put-transition-requires
+put-transition-requires c κs = search needs
 
 same-length : tie.Need-same-length
 same-length c = search needs
 
 returns-2 : tie.Need-returns-2
 returns-2 c =
-    let a = c .before .before .before .before .before .before .before .before .before .before .before .before .before .before .before .before .before .before .before .before .args in
-    let e = a .entry in
-    let t : length (e .time) ≡ 9 = search needs in
-    let b : length (e .body) ≡ 21 = search needs in
-    put-three _ (a .buf .now) (omega (arith, event-length (a .token) e t b)) (c .before .before .before .before .before .before .before .before .before .before .before .before .before .before .before .before .before .head-of .result) (e .time ++ e .body)
-    (event-parts (a .token) e t b ∙ ap (λ l. l ++ (e .time ++ e .body)) (sym (c .before .before .before .before .before .before .before .before .before .before .before .before .before .before .before .before .before .head-of .ensures))) _ _ (c .before .before .before .before .before .before .before .before .before .before .before .before .put .ensures)
-    (e .time) (e .body) refl _ _ (c .before .before .before .before .before .before .before .put2 .ensures) _ _ (c .before .before .put3 .ensures)
+    let a = c .before .before .before .before .before .before .before .before .before .before .before .before .before .before .before .before .before .before .before .before .before .before .args in
+    let t : length (a .entry .time) ≡ 9 = search (needs, c .before .before .before .before .before .before .before .before .before .before .before .before .before .before .before .before .before .before .before .before .before .before .good) in
+    let b : length (a .entry .body) ≡ bodyCapacity = search (needs, c .before .before .before .before .before .before .before .before .before .before .before .before .before .before .before .before .before .before .before .before .before .before .good) in
+    put-event-parts (a .token) (a .entry) t b _ (c .before .before .before .before .before .before .before .before .before .before .before .before .before .before .before .before .before .before .before .least .ensures) (a .buf .now) _ (c .before .before .before .before .before .before .before .before .before .before .before .before .before .before .before .before .before .before .if1 .left) (c .before .before .before .before .before .before .before .before .before .before .before .before .before .before .before .before .before .head-of .ensures) _ _ (c .before .before .before .before .before .before .before .before .before .before .before .before .put .ensures) _ _ (c .before .before .before .before .before .before .before .put2 .ensures) _ _ (rw (c .before .before .before .before .if2 .taken) (c .before .before .put-transition .ensures))
+
+put-body-requires : tie.Need-put-body-requires
+put-body-requires c κs = omega (arith, c .before .before .before .before .before .before .before .before .before .before .before .before .before .before .before .before .least .ensures)
+
+same-length-2 : tie.Need-same-length-2
+same-length-2 c = search needs
+
+returns-3 : tie.Need-returns-3
+returns-3 c =
+    let a = c .before .before .before .before .before .before .before .before .before .before .before .before .before .before .before .before .before .before .before .before .before .before .args in
+    let t : length (a .entry .time) ≡ 9 = search (needs, c .before .before .before .before .before .before .before .before .before .before .before .before .before .before .before .before .before .before .before .before .before .before .good) in
+    let b : length (a .entry .body) ≡ bodyCapacity = search (needs, c .before .before .before .before .before .before .before .before .before .before .before .before .before .before .before .before .before .before .before .before .before .before .good) in
+    put-event-parts (a .token) (a .entry) t b _ (c .before .before .before .before .before .before .before .before .before .before .before .before .before .before .before .before .before .before .before .least .ensures) (a .buf .now) _ (c .before .before .before .before .before .before .before .before .before .before .before .before .before .before .before .before .before .before .if1 .left) (c .before .before .before .before .before .before .before .before .before .before .before .before .before .before .before .before .before .head-of .ensures) _ _ (c .before .before .before .before .before .before .before .before .before .before .before .before .put .ensures) _ _ (c .before .before .before .before .before .before .before .put2 .ensures) _ _ (c .before .before .put-body .ensures)
 
 pub put-event-spec : {M : Type 1} → statement M
 put-event-spec =
     tie.close
     (tie.spec
+    cast-least
+    least-requires
+    add-if1
     returns
+    add-head-of
     head-of-requires
     slice-aggregate-put
     put-requires
     slice-aggregate-put-2
     put-requires-2
-    slice-aggregate-put-3
-    put-requires-3
+    put-transition-requires
     same-length
-    returns-2)
+    returns-2
+    put-body-requires
+    same-length-2
+    returns-3)

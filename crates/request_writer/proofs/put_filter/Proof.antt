@@ -16,10 +16,10 @@ use Rattle.request_writer.proofs.put_filter.Statement.{statement}
 use Rattle.request_writer.proofs.put_filter.Tie as tie
 
 abbrev Inv-loop : tie.InvT-loop
-Inv-loop buf₀ filter at₀ id₀ buf at id = (id ≤ 5) × (length filter ≡ 5) × Putting (filterOctets filter) buf₀ buf at (pieces conditionOctets id (drop id filter))
+Inv-loop buf₀ ty filter at₀ id₀ buf at id = (id ≤ 5) × (length filter ≡ 5) × Putting (filterOctets ty filter) buf₀ buf at (pieces (conditionOctets ty) id (drop id filter))
 
 abbrev μ-loop : tie.MeasureT-loop
-μ-loop buf₀ filter at₀ id₀ buf at id = 5 - id
+μ-loop buf₀ ty filter at₀ id₀ buf at id = 5 - id
 
 loop-holds : tie.Need-loop-holds Inv-loop μ-loop
 loop-holds c = (omega arith, search (needs, length-mapped), putting-start _ _ (c .before .pre))
@@ -42,18 +42,20 @@ part-put-condition-end c = search needs
 put-condition-requires : tie.Need-put-condition-requires Inv-loop μ-loop
 put-condition-requires c κs =
     let i = c .before .before .before .loop .inv in
-    let f = c .before .before .before .before .before .args .t2 in
+    let a = c .before .before .before .before .before .args in
+    let f = a .t3 in
     let id = c .before .before .before .loop .id in
-    let next = pieces-next conditionOctets f id pastFilter (omega (arith, i .1)) in
-    (omega arith, putting-fits (i .2) (conditionOctets id (getD f id pastFilter)) (pieces conditionOctets (id + 1) (drop (id + 1) f)) next)
+    let next = pieces-next (conditionOctets (a .ty)) f id pastFilter (omega (arith, i .1)) in
+    (omega arith, putting-fits (i .2) (conditionOctets (a .ty) id (getD f id pastFilter)) (pieces (conditionOctets (a .ty)) (id + 1) (drop (id + 1) f)) next)
 
 add-at : tie.Need-add-at Inv-loop μ-loop
 add-at c =
     let i = c .before .before .before .before .before .before .loop .inv in
-    let f = c .before .before .before .before .before .before .before .before .args .t2 in
+    let a = c .before .before .before .before .before .before .before .before .args in
+    let f = a .t3 in
     let id = c .before .before .before .before .before .before .loop .id in
-    let next = pieces-next conditionOctets f id pastFilter (omega (arith, i .1)) in
-    omega (arith, c .before .before .put-condition .ensures .0, putting-within (i .2) (conditionOctets id (getD f id pastFilter)) (pieces conditionOctets (id + 1) (drop (id + 1) f)) next)
+    let next = pieces-next (conditionOctets (a .ty)) f id pastFilter (omega (arith, i .1)) in
+    omega (arith, c .before .before .put-condition .ensures .0, putting-within (i .2) (conditionOctets (a .ty) id (getD f id pastFilter)) (pieces (conditionOctets (a .ty)) (id + 1) (drop (id + 1) f)) next)
 
 add-id : tie.Need-add-id Inv-loop μ-loop
 add-id c = omega arith
@@ -64,10 +66,11 @@ loop-less c = omega arith
 loop-again : tie.Need-loop-again Inv-loop μ-loop
 loop-again c =
     let i = c .before .before .before .before .before .before .loop .inv in
-    let f = c .before .before .before .before .before .before .before .before .args .t2 in
+    let a = c .before .before .before .before .before .before .before .before .args in
+    let f = a .t3 in
     let id = c .before .before .before .before .before .before .loop .id in
-    let next = pieces-next conditionOctets f id pastFilter (omega (arith, i .1)) in
-    (omega arith, i .1, rw (c .before .before .put-condition .ensures .0) (putting-next (i .2) (conditionOctets id (getD f id pastFilter)) (pieces conditionOctets (id + 1) (drop (id + 1) f)) next (c .before .before .put-condition .last .0) (c .before .before .put-condition .ensures .1)))
+    let next = pieces-next (conditionOctets (a .ty)) f id pastFilter (omega (arith, i .1)) in
+    (omega arith, i .1, rw (c .before .before .put-condition .ensures .0) (putting-next (i .2) (conditionOctets (a .ty) id (getD f id pastFilter)) (pieces (conditionOctets (a .ty)) (id + 1) (drop (id + 1) f)) next (c .before .before .put-condition .last .0) (c .before .before .put-condition .ensures .1)))
 
 same-length : tie.Need-same-length Inv-loop μ-loop
 same-length c = putting-length (c .before .loop .inv .2)
@@ -75,9 +78,9 @@ same-length c = putting-length (c .before .loop .inv .2)
 returns : tie.Need-returns Inv-loop μ-loop
 returns c =
     let i = c .before .loop .inv in
-    let e = pieces-end conditionOctets (c .before .before .before .args .t2) (c .before .loop .id) (omega (arith, i .1)) in
+    let e = pieces-end (conditionOctets (c .before .before .before .args .ty)) (c .before .before .before .args .t3) (c .before .loop .id) (omega (arith, i .1)) in
     let n = putting-end (i .2) e in
-    ((n, omega (arith, n, filter-length (c .before .before .before .args .t2) (i .1))), putting-done (i .2) e)
+    ((n, omega (arith, n, filter-length (c .before .before .before .args .ty) (c .before .before .before .args .t3) (i .1))), putting-done (i .2) e)
 
 pub put-filter-spec : {M : Type 1} → statement M
 put-filter-spec =

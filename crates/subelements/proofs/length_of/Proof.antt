@@ -1,23 +1,22 @@
--- `subelements::length_of` meets its contract: past the table the list's default is 0.
+-- `subelements::length_of` meets its contract.
 -- Assumes nothing.
-use mathlib.Core.Path.{sym}
-use lib.ListN.{List·getD-eq-default}
-use Rattle.subelements.specs.Subelements.{lengths}
+use borrow.Author.Tests.{eq-eqb, ne-eqb}
 use borrow.Author.Needs.{needs}
+use Rattle.laws.specs.Choice.{if_then_else_}
+use Rattle.subelements.specs.Subelements.{lengthOf}
 use Rattle.subelements.proofs.length_of.Statement.{statement}
 use Rattle.subelements.proofs.length_of.Tie as tie
 
-mul-result : tie.Need-mul-result
-mul-result c = search needs
-
-array-read-result : tie.Need-array-read-result
-array-read-result c = search needs
+row-of-requires : tie.Need-row-of-requires
+row-of-requires c κs = search needs
 
 returns : tie.Need-returns
-returns c = search needs
+unfolding lengthOf if_then_else_
+returns c = rw (eq-eqb _ _ (c .if1 .taken), c .before .row-of .ensures)
 
 returns-2 : tie.Need-returns-2
-returns-2 c = sym (List·getD-eq-default lengths 0 (c .if1 .left))
+unfolding lengthOf if_then_else_
+returns-2 c = rw (ne-eqb _ _ (c .if1 .left), c .before .row-of .ensures)
 
 pub length-of-spec : {M : Type 1} → statement M
-length-of-spec = tie.close (tie.spec mul-result array-read-result returns returns-2)
+length-of-spec = tie.close (tie.spec row-of-requires returns returns-2)

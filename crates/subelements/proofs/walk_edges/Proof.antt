@@ -1,4 +1,4 @@
--- `subelements::walk_edges` meets its contract. The invariant is that of `walk`, with no ID known and so no filter.
+-- `subelements::walk_edges` meets its contract. The invariant is that of `walk`, of a type without a table, and so no filter.
 -- Assumes nothing.
 use Prim.Native.Nat.{ℕ, _-_}
 use mathlib.Core.Path.{refl}
@@ -8,6 +8,7 @@ use Rattle.octets.specs.Refusals.{noRefusal}
 use Rattle.subelements.specs.declared.Subelements.{Subelements}
 use Rattle.subelements.specs.Subelements.{noFilter}
 use Rattle.subelements.proofs.Laws.{Walking, walking-start, walking-end, moves, refused-edge, passed-over}
+use Rattle.subelements.proofs.Tables.{no-length}
 use Rattle.subelements.proofs.walk_edges.Statement.{statement}
 use Rattle.subelements.proofs.walk_edges.Tie as tie
 
@@ -15,7 +16,7 @@ abbrev edges : ℕ → ℕ → Subelements
 edges at count = record { refusal = noRefusal; at = at; count = count; filter = noFilter }
 
 abbrev Inv-loop : tie.InvT-loop
-Inv-loop s from end at₀ count₀ at count = Walking s 0 from end (edges at count)
+Inv-loop s from end at₀ count₀ at count = Walking s 3 from end (edges at count)
 
 abbrev μ-loop : tie.MeasureT-loop
 μ-loop s from end at₀ count₀ at count = end - at
@@ -39,7 +40,7 @@ loop-less : tie.Need-loop-less Inv-loop μ-loop
 loop-less c = moves (c .before .before .before .loop .inv) (c .before .before .loop-test .taken) (c .before .piece-end .ensures) (c .if1 .left)
 
 loop-again : tie.Need-loop-again Inv-loop μ-loop
-loop-again c = passed-over (c .before .before .before .loop .inv) (c .before .before .loop-test .taken) (c .before .piece-end .ensures) (c .if1 .left) refl (omega arith)
+loop-again c = passed-over (c .before .before .before .loop .inv) (c .before .before .loop-test .taken) (c .before .piece-end .ensures) (c .if1 .left) refl refl refl (no-length _ _ _ refl)
 
 none-requires : tie.Need-none-requires Inv-loop μ-loop
 none-requires c κs = search needs

@@ -1,9 +1,8 @@
 -- `firmware::frames::dultxibe_next_element` meets its contract.
 -- Assumes nothing.
-use mathlib.Core.Path.{sym, ap, _∙_}
+use mathlib.Core.Path.{ap, _∙_}
 use Rattle.octets.specs.declared.numbers.Kind.{Kind}
 use Rattle.report_reader.specs.Reader.{stepAt}
-use Rattle.report_reader.proofs.Laws.{logged-found}
 use Rattle.firmware.specs.Numbers.{numberedStep}
 use borrow.Author.Needs.{needs}
 use Rattle.firmware.proofs.frames.dultxibe_next_element.Statement.{statement}
@@ -15,36 +14,19 @@ kind-of-requires c κs = search needs
 next-requires : tie.Need-next-requires
 next-requires c κs = search needs
 
-found-step-requires : tie.Need-found-step-requires
-found-step-requires c κs = search needs
-
-returns : tie.Need-returns
-returns c =
-    let a = c .before .before .before .before .before .before .args in
-    let e = c .before .before .before .next .ensures in
-    c .found-step .ensures
-    ∙ ap numberedStep (sym (logged-found (a .s .now) _ (a .at) _ e (c .before .if1 .taken)) ∙ e ∙ ap (λ (k : Kind). stepAt (a .s .now) k (a .at)) (c .before .before .before .before .kind-of .ensures))
-
 flag-number-requires : tie.Need-flag-number-requires
 flag-number-requires c κs = search needs
 
 report-element-requires : tie.Need-report-element-requires
 report-element-requires c κs = search needs
 
-returns-2 : tie.Need-returns-2
-returns-2 c =
-    let a = c .before .before .before .before .before .before .before .args in
+returns : tie.Need-returns
+returns c =
+    let a = c .before .before .before .before .before .before .args in
     rw (c .report-element .ensures, c .before .flag-number .ensures)
-    (ap numberedStep (c .before .before .before .before .next .ensures ∙ ap (λ (k : Kind). stepAt (a .s .now) k (a .at)) (c .before .before .before .before .before .kind-of .ensures)))
+    (ap numberedStep (c .before .before .before .next .ensures ∙ ap (λ (k : Kind). stepAt (a .s .now) k (a .at)) (c .before .before .before .before .kind-of .ensures)))
 
 pub dultxibe-next-element-spec : {M : Type 1} → statement M
 dultxibe-next-element-spec =
     tie.close
-    (tie.spec
-    kind-of-requires
-    next-requires
-    found-step-requires
-    returns
-    flag-number-requires
-    report-element-requires
-    returns-2)
+    (tie.spec kind-of-requires next-requires flag-number-requires report-element-requires returns)

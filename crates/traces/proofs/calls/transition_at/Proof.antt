@@ -38,11 +38,11 @@ add-pair-at c = search needs
 pair-at-requires : tie.Need-pair-at-requires
 pair-at-requires c κs = search needs
 
-add-signals-at : tie.Need-add-signals-at
-add-signals-at c = search needs
+add-four-at : tie.Need-add-four-at
+add-four-at c = search needs
 
-signals-at-requires : tie.Need-signals-at-requires
-signals-at-requires c κs = search needs
+four-at-requires : tie.Need-four-at-requires
+four-at-requires c κs = search needs
 
 add-milliseconds-at : tie.Need-add-milliseconds-at
 add-milliseconds-at c = search needs
@@ -53,7 +53,7 @@ milliseconds-at-requires c κs = search needs
 returns : tie.Need-returns
 unfolding transitionFields
 returns c =
-    rw (← c .before .before .before .before .before .before .before .fields .ensures .0, ← c .before .before .before .before .before .before .time-at .ensures, ← c .before .before .before .before .before .address-at .ensures, ← c .before .before .before .before .address-at2 .ensures, ← c .before .before .before .octet .ensures, ← c .before .before .pair-at .ensures, ← c .before .signals-at .ensures, ← c .milliseconds-at .ensures)
+    rw (← c .before .before .before .before .before .before .before .fields .ensures .0, ← c .before .before .before .before .before .before .time-at .ensures, ← c .before .before .before .before .before .address-at .ensures, ← c .before .before .before .before .address-at2 .ensures, ← c .before .before .before .octet .ensures, ← c .before .before .pair-at .ensures, ← c .before .four-at .ensures, ← c .milliseconds-at .ensures)
 
 pub transition-at-spec : {M : Type 1} → statement M
 transition-at-spec =
@@ -70,8 +70,8 @@ transition-at-spec =
     octet-requires
     add-pair-at
     pair-at-requires
-    add-signals-at
-    signals-at-requires
+    add-four-at
+    four-at-requires
     add-milliseconds-at
     milliseconds-at-requires
     returns)

@@ -3,8 +3,8 @@
 use native.Mathlib.Omega.{arith}
 use borrow.Author.Tests.{eq-eqb, ne-eqb}
 use Rattle.laws.specs.Choice.{if_then_else_}
-use Rattle.traces.specs.Elements.{tracedElementAt, walkedElement}
-use Rattle.traces.proofs.WalkLaws.{behind-past}
+use Rattle.traces.specs.Elements.{tracedElementAt}
+use Rattle.traces.proofs.WalkLaws.{behind-past, behind-within}
 use borrow.Author.Needs.{needs}
 use Rattle.traces.proofs.elements.element_at.Statement.{statement}
 use Rattle.traces.proofs.elements.element_at.Tie as tie
@@ -13,7 +13,7 @@ refused-requires : tie.Need-refused-requires
 refused-requires c κs = search needs
 
 returns : tie.Need-returns
-unfolding tracedElementAt walkedElement if_then_else_
+unfolding tracedElementAt if_then_else_
 returns c = let a = c .before .before .before .args in rw (behind-past (a .s .now) (a .at) 5 (omega arith)) (c .refused .ensures)
 
 behind-requires : tie.Need-behind-requires
@@ -23,7 +23,7 @@ refused-requires-2 : tie.Need-refused-requires-2
 refused-requires-2 c κs = search needs
 
 returns-2 : tie.Need-returns-2
-unfolding tracedElementAt walkedElement if_then_else_
+unfolding tracedElementAt if_then_else_
 returns-2 c = rw (← c .before .before .behind .ensures, eq-eqb _ 0 (c .before .if2 .taken)) (c .refused2 .ensures)
 
 add-pair-at : tie.Need-add-pair-at
@@ -39,9 +39,8 @@ refused-requires-3 : tie.Need-refused-requires-3
 refused-requires-3 c κs = search needs
 
 returns-3 : tie.Need-returns-3
-unfolding tracedElementAt walkedElement if_then_else_
-returns-3 c =
-    rw (← c .before .before .before .before .before .behind .ensures, ne-eqb _ 0 (c .before .before .before .before .if2 .left), ← c .before .before .before .pair-at .ensures, ← c .before .before .bad-value .ensures, c .before .if3 .taken) (c .refused3 .ensures)
+unfolding tracedElementAt if_then_else_
+returns-3 c = rw (← c .before .before .before .before .before .behind .ensures, ne-eqb _ 0 (c .before .before .before .before .if2 .left), ← c .before .before .before .pair-at .ensures, ← c .before .before .bad-value .ensures, c .before .if3 .taken) (c .refused3 .ensures)
 
 add-octet : tie.Need-add-octet
 add-octet c = search needs
@@ -49,33 +48,24 @@ add-octet c = search needs
 octet-requires : tie.Need-octet-requires
 octet-requires c κs = search needs
 
-conditions-end-requires : tie.Need-conditions-end-requires
-conditions-end-requires c κs = search needs
+condition-table-requires : tie.Need-condition-table-requires
+condition-table-requires c κs = search needs
+
+add-octet-2 : tie.Need-add-octet-2
+add-octet-2 c = search needs
+
+octet-requires-2 : tie.Need-octet-requires-2
+octet-requires-2 c κs = search needs
+
+conditions-at-requires : tie.Need-conditions-at-requires
+conditions-at-requires c κs = let a = c .before .before .before .before .before .before .before .before .before .before .args in rw (c .before .before .before .before .before .before .before .behind .ensures) (behind-within (a .s .now) (a .at) 5)
 
 refused-requires-4 : tie.Need-refused-requires-4
 refused-requires-4 c κs = search needs
 
 returns-4 : tie.Need-returns-4
-unfolding tracedElementAt walkedElement if_then_else_
-returns-4 c =
-    rw (← c .before .before .before .before .before .before .before .before .behind .ensures, ne-eqb _ 0 (c .before .before .before .before .before .before .before .if2 .left), ← c .before .before .before .before .before .before .pair-at .ensures, ← c .before .before .before .before .before .bad-value .ensures, c .before .before .before .before .if3 .left, ← c .before .before .before .octet .ensures, ← c .before .before .conditions-end .ensures, eq-eqb _ 0 (c .before .if4 .taken)) (c .refused4 .ensures)
-
-walk-request-requires : tie.Need-walk-request-requires
-walk-request-requires c κs = search needs
-
-refused-requires-5 : tie.Need-refused-requires-5
-refused-requires-5 c κs = search needs
-
-returns-5 : tie.Need-returns-5
-unfolding tracedElementAt walkedElement if_then_else_
-returns-5 c =
-    rw (← c .before .before .before .before .before .before .before .before .before .before .before .behind .ensures, ne-eqb _ 0 (c .before .before .before .before .before .before .before .before .before .before .if2 .left), ← c .before .before .before .before .before .before .before .before .before .pair-at .ensures, ← c .before .before .before .before .before .before .before .before .bad-value .ensures, c .before .before .before .before .before .before .before .if3 .left, ← c .before .before .before .before .before .before .octet .ensures, ← c .before .before .before .before .before .conditions-end .ensures, ne-eqb _ 0 (c .before .before .before .before .if4 .left), ← c .before .before .before .walk-request .ensures, ne-eqb _ 0 (c .before .if5 .taken)) (c .refused5 .ensures)
-
-octet-requires-2 : tie.Need-octet-requires-2
-octet-requires-2 c κs = search needs
-
-add-octet-2 : tie.Need-add-octet-2
-add-octet-2 c = search needs
+unfolding tracedElementAt if_then_else_
+returns-4 c = rw (← c .before .before .before .before .before .before .before .before .before .before .before .behind .ensures, ne-eqb _ 0 (c .before .before .before .before .before .before .before .before .before .before .if2 .left), ← c .before .before .before .before .before .before .before .before .before .pair-at .ensures, ← c .before .before .before .before .before .before .before .before .bad-value .ensures, c .before .before .before .before .before .before .before .if3 .left, ← c .before .before .before .before .before .before .octet .ensures, ← c .before .before .before .before .before .condition-table .ensures, ← c .before .before .before .before .octet2 .ensures, ← c .before .before .before .conditions-at .ensures, eq-eqb _ 0 (c .before .if4 .taken)) (c .refused4 .ensures)
 
 octet-requires-3 : tie.Need-octet-requires-3
 octet-requires-3 c κs = search needs
@@ -86,10 +76,9 @@ limit-of-requires c κs = search needs
 timeout-of-requires : tie.Need-timeout-of-requires
 timeout-of-requires c κs = search needs
 
-returns-6 : tie.Need-returns-6
-unfolding tracedElementAt walkedElement if_then_else_
-returns-6 c =
-    rw (← c .before .before .before .before .before .before .before .before .before .before .before .before .before .before .before .behind .ensures, ne-eqb _ 0 (c .before .before .before .before .before .before .before .before .before .before .before .before .before .before .if2 .left), ← c .before .before .before .before .before .before .before .before .before .before .before .before .before .pair-at .ensures, ← c .before .before .before .before .before .before .before .before .before .before .before .before .bad-value .ensures, c .before .before .before .before .before .before .before .before .before .before .before .if3 .left, ← c .before .before .before .before .before .before .before .before .before .before .octet .ensures, ← c .before .before .before .before .before .before .before .before .before .conditions-end .ensures, ne-eqb _ 0 (c .before .before .before .before .before .before .before .before .if4 .left), ← c .before .before .before .before .before .before .before .walk-request .ensures, eq-eqb _ 0 (c .before .before .before .before .before .if5 .left), ← c .before .before .before .octet2 .ensures, ← c .before .before .octet3 .ensures, ← c .before .limit-of .ensures, ← c .timeout-of .ensures)
+returns-5 : tie.Need-returns-5
+unfolding tracedElementAt if_then_else_
+returns-5 c = rw (← c .before .before .before .before .before .before .before .before .before .before .before .before .before .before .behind .ensures, ne-eqb _ 0 (c .before .before .before .before .before .before .before .before .before .before .before .before .before .if2 .left), ← c .before .before .before .before .before .before .before .before .before .before .before .before .pair-at .ensures, ← c .before .before .before .before .before .before .before .before .before .before .before .bad-value .ensures, c .before .before .before .before .before .before .before .before .before .before .if3 .left, ← c .before .before .before .before .before .before .before .before .before .octet .ensures, ← c .before .before .before .before .before .before .before .before .condition-table .ensures, ← c .before .before .before .before .before .before .before .octet2 .ensures, ← c .before .before .before .before .before .before .conditions-at .ensures, ne-eqb _ 0 (c .before .before .before .before .if4 .left), ← c .before .before .octet3 .ensures, ← c .before .limit-of .ensures, ← c .timeout-of .ensures)
 
 pub element-at-spec : {M : Type 1} → statement M
 element-at-spec =
@@ -107,15 +96,13 @@ element-at-spec =
     returns-3
     add-octet
     octet-requires
-    conditions-end-requires
+    condition-table-requires
+    add-octet-2
+    octet-requires-2
+    conditions-at-requires
     refused-requires-4
     returns-4
-    walk-request-requires
-    refused-requires-5
-    returns-5
-    octet-requires-2
-    add-octet-2
     octet-requires-3
     limit-of-requires
     timeout-of-requires
-    returns-6)
+    returns-5)

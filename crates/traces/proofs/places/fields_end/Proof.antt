@@ -40,14 +40,23 @@ behind-requires-5 c κs = search needs
 list-end-requires-3 : tie.Need-list-end-requires-3
 list-end-requires-3 c κs = search needs
 
-writer-call-end-requires : tie.Need-writer-call-end-requires
-writer-call-end-requires c κs = search needs
-
 behind-requires-6 : tie.Need-behind-requires-6
 behind-requires-6 c κs = search needs
 
 octets-end-requires-3 : tie.Need-octets-end-requires-3
 octets-end-requires-3 c κs = search needs
+
+behind-requires-7 : tie.Need-behind-requires-7
+behind-requires-7 c κs = search needs
+
+writer-call-end-requires : tie.Need-writer-call-end-requires
+writer-call-end-requires c κs = search needs
+
+behind-requires-8 : tie.Need-behind-requires-8
+behind-requires-8 c κs = search needs
+
+octets-end-requires-4 : tie.Need-octets-end-requires-4
+octets-end-requires-4 c κs = search needs
 
 returns : tie.Need-returns
 unfolding fieldsEnd if_then_else_
@@ -79,17 +88,25 @@ returns-7 c = rw (c .before .before .match .keys7, ← c .before .behind5 .ensur
 
 returns-8 : tie.Need-returns-8
 unfolding fieldsEnd if_then_else_
-returns-8 c = rw (c .before .match .keys8) (c .writer-call-end .ensures)
+returns-8 c = rw (c .before .before .match .keys8, ← c .before .behind6 .ensures) (c .octets-end3 .ensures)
 
 returns-9 : tie.Need-returns-9
 unfolding fieldsEnd if_then_else_
-returns-9 c = rw (c .before .before .match .keys9, ← c .before .behind6 .ensures) (c .octets-end3 .ensures)
+returns-9 c = rw (c .before .match .keys9) (c .behind7 .ensures)
 
 returns-10 : tie.Need-returns-10
 unfolding fieldsEnd if_then_else_
-returns-10 c =
+returns-10 c = rw (c .before .match .keys10) (c .writer-call-end .ensures)
+
+returns-11 : tie.Need-returns-11
+unfolding fieldsEnd if_then_else_
+returns-11 c = rw (c .before .before .match .keys11, ← c .before .behind8 .ensures) (c .octets-end4 .ensures)
+
+returns-12 : tie.Need-returns-12
+unfolding fieldsEnd if_then_else_
+returns-12 c =
     let r = c .match .rest in
-    rw (ne-eqb _ 0 (r .0 .0 .0 .0 .0 .0 .0 .0 .1), ne-eqb _ 1 (r .0 .0 .0 .0 .0 .0 .0 .1), ne-eqb _ 2 (r .0 .0 .0 .0 .0 .0 .1), ne-eqb _ 3 (r .0 .0 .0 .0 .0 .1), ne-eqb _ 4 (r .0 .0 .0 .0 .1), ne-eqb _ 5 (r .0 .0 .0 .1), ne-eqb _ 6 (r .0 .0 .1), ne-eqb _ 16 (r .0 .1), ne-eqb _ 17 (r .1))
+    rw (ne-eqb _ 0 (r .0 .0 .0 .0 .0 .0 .0 .0 .0 .0 .1), ne-eqb _ 1 (r .0 .0 .0 .0 .0 .0 .0 .0 .0 .1), ne-eqb _ 2 (r .0 .0 .0 .0 .0 .0 .0 .0 .1), ne-eqb _ 3 (r .0 .0 .0 .0 .0 .0 .0 .1), ne-eqb _ 4 (r .0 .0 .0 .0 .0 .0 .1), ne-eqb _ 5 (r .0 .0 .0 .0 .0 .1), ne-eqb _ 6 (r .0 .0 .0 .0 .1), ne-eqb _ 7 (r .0 .0 .0 .1), ne-eqb _ 8 (r .0 .0 .1), ne-eqb _ 16 (r .0 .1), ne-eqb _ 17 (r .1))
 
 pub fields-end-spec : {M : Type 1} → statement M
 fields-end-spec =
@@ -106,9 +123,12 @@ fields-end-spec =
     list-end-requires-2
     behind-requires-5
     list-end-requires-3
-    writer-call-end-requires
     behind-requires-6
     octets-end-requires-3
+    behind-requires-7
+    writer-call-end-requires
+    behind-requires-8
+    octets-end-requires-4
     returns
     returns-2
     returns-3
@@ -118,4 +138,6 @@ fields-end-spec =
     returns-7
     returns-8
     returns-9
-    returns-10)
+    returns-10
+    returns-11
+    returns-12)

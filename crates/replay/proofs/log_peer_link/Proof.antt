@@ -1,0 +1,31 @@
+-- `replay::log_peer_link` meets its contract.
+-- Assumes nothing.
+use Rattle.replay.proofs.Laws.{leaves}
+use borrow.Author.Needs.{needs}
+use Rattle.replay.proofs.log_peer_link.Statement.{statement}
+use Rattle.replay.proofs.log_peer_link.Tie as tie
+
+reading-at-requires : tie.Need-reading-at-requires
+reading-at-requires c κs = search needs
+
+peer-link-at-requires : tie.Need-peer-link-at-requires
+peer-link-at-requires c κs = search needs
+
+log-peer-link-requires : tie.Need-log-peer-link-requires
+log-peer-link-requires c κs = search needs
+
+after-requires : tie.Need-after-requires
+after-requires c κs = search needs
+
+returns : tie.Need-returns
+returns c = rw (← c .before .before .before .reading-at .ensures, ← c .before .before .peer-link-at .ensures) (leaves _ _ _ _ (c .after .ensures) (c .before .log-peer-link .ensures))
+
+pub log-peer-link-spec : {M : Type 1} → statement M
+log-peer-link-spec =
+    tie.close
+    (tie.spec
+    reading-at-requires
+    peer-link-at-requires
+    log-peer-link-requires
+    after-requires
+    returns)

@@ -1,0 +1,159 @@
+// The fields of an event, from the octets behind a report's status: nine of time, and the event's body.
+// One decoder for each kind, total: octets past the end are 0.
+use events::peer_links;
+use events::rsna_events;
+use events::rsna_events::METHOD_OFFSET;
+use events::rsna_events::RSN_LENGTH;
+use events::rsna_events::rsna_length;
+use events::transitions;
+use octets::least;
+use octets::octet;
+use octets::put;
+use octets::read_at;
+use octets::time_at;
+use units::TimeUnits;
+ghost use mathlib.Core.Path.{_≡_};
+ghost use mathlib.Core.List.{[]};
+ghost use Prim.Native.Nat.{_<_};
+ghost use lib.ListN.{length, drop};
+ghost use Rattle.octets.specs.Fields.{octetsAt};
+ghost use Rattle.events.specs.RsnaEvents.{rsnElementOf};
+ghost use Rattle.report_reader.specs.Decoders.{transitionIn, rsnaIn, peerLinkIn};
+
+// The octets of a time.
+const TIME: usize = 9;
+
+// The octets of a transition with its time.
+const TRANSITION: usize = TIME + transitions::TRANSITION_LENGTH;
+
+// A reported transition; the signals are source RCPI, source RSNI, target RCPI and target RSNI.
+#[repr(C)]
+pub struct TransitionReport {
+    pub time: [u8; 9],
+    pub source: [u8; 6],
+    pub target: [u8; 6],
+    pub took: TimeUnits,
+    pub reason: u8,
+    pub result: u16,
+    pub signals: [u8; 4],
+}
+
+// A reported RSNA event; the EAP method is 0 past its length. The RSN element stands in its places, and
+// size says how many octets it has: none where it is absent.
+#[repr(C)]
+pub struct RsnaReport {
+    pub time: [u8; 9],
+    pub target: [u8; 6],
+    pub authentication: [u8; 4],
+    pub method: [u8; 8],
+    pub result: u8,
+    pub rsn: [u8; RSN_LENGTH],
+    pub size: usize,
+}
+
+// A reported peer-to-peer link event.
+#[repr(C)]
+pub struct PeerLinkReport {
+    pub time: [u8; 9],
+    pub peer: [u8; 6],
+    pub class: u8,
+    pub channel: u8,
+    pub power: u8,
+    pub connection: [u8; 3],
+    pub status: u8,
+}
+
+// What stands behind the first n octets.
+fn behind(o: &[u8], n: usize) -> &[u8]
+    ensures { λ r. ⌜ now r ≡ drop n (now (o .entry)) ⌝ }
+{
+    let from = least(n, o.len());
+    &o[from..]
+}
+
+fn transition_of(o: &[u8]) -> TransitionReport
+    ensures { λ r. ⌜ r ≡ transitionIn (now (o .entry)) ⌝ }
+{
+    let body = behind(o, TIME);
+    TransitionReport {
+        time: time_at(o, 0),
+        source: transitions::source_of(body),
+        target: transitions::target_of(body),
+        took: transitions::took_of(body),
+        reason: transitions::reason_of(body),
+        result: transitions::result_of(body),
+        signals: transitions::signals_of(body),
+    }
+}
+
+// A slice that is shorter than a transition with its time, with zeros behind it.
+fn pad(o: &[u8], blank: &mut [u8])
+    requires { ⌜ now blank ≡ octetsAt [] 0 30 ⌝ }
+    ensures { λ _. ⌜ (length (now (o .entry)) < 30 → transitionIn (now (blank .exit)) ≡ transitionIn (now (o .entry))) ⌝ }
+{
+    if TRANSITION <= o.len() {
+        return;
+    }
+    put(blank, 0, o);
+}
+
+// As many octets as a transition with its time has.
+fn whole_of<'a>(o: &'a [u8], padded: &'a [u8]) -> &'a [u8]
+    requires { ⌜ (length (now o) < 30 → transitionIn (now padded) ≡ transitionIn (now o)) ⌝ }
+    ensures { λ r. ⌜ transitionIn (now r) ≡ transitionIn (now (o .entry)) ⌝ }
+{
+    if o.len() < TRANSITION {
+        return padded;
+    }
+    &o[..TRANSITION]
+}
+
+// The end is tested before all fields: the length of what they are read of is a constant.
+pub fn transition_in(o: &[u8]) -> TransitionReport
+    ensures { λ r. ⌜ r ≡ transitionIn (now (o .entry)) ⌝ }
+{
+    let mut padded = [0u8; TRANSITION];
+    pad(o, &mut padded);
+    transition_of(whole_of(o, &padded))
+}
+
+// The RSN element of a body.
+fn rsn_of(body: &[u8]) -> &[u8]
+    ensures { λ r. ⌜ now r ≡ rsnElementOf (now (body .entry)) ⌝ }
+{
+    let first = octet(body, METHOD_OFFSET);
+    behind(body, rsna_length(first))
+}
+
+pub fn rsna_in(o: &[u8]) -> RsnaReport
+    ensures { λ r. ⌜ r ≡ rsnaIn (now (o .entry)) ⌝ }
+{
+    let body = behind(o, TIME);
+    let element = rsn_of(body);
+    let mut rsn = [0u8; RSN_LENGTH];
+    read_at(element, 0, &mut rsn);
+    RsnaReport {
+        time: time_at(o, 0),
+        target: rsna_events::target_of(body),
+        authentication: rsna_events::authentication_of(body),
+        method: rsna_events::method_of(body),
+        result: rsna_events::result_of(body),
+        rsn,
+        size: element.len(),
+    }
+}
+
+pub fn peer_link_in(o: &[u8]) -> PeerLinkReport
+    ensures { λ r. ⌜ r ≡ peerLinkIn (now (o .entry)) ⌝ }
+{
+    let body = behind(o, TIME);
+    PeerLinkReport {
+        time: time_at(o, 0),
+        peer: peer_links::peer_of(body),
+        class: peer_links::class_of(body),
+        channel: peer_links::channel_of(body),
+        power: peer_links::power_of(body),
+        connection: peer_links::connection_of(body),
+        status: peer_links::status_of(body),
+    }
+}

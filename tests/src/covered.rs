@@ -1,0 +1,429 @@
+//! What a trace had of request (a) of document 02, counted beside the second gate's run of it: a case that no
+//! trace had could not have failed.
+
+use crate::condition::{near, Condition};
+use crate::event_body::{is_reported, EventBody};
+use crate::octets::{part_at, Kind, HEADER};
+use crate::report::{read_report, ReportElement, ReportFrame, Rest};
+use crate::request::{count_subelements, read_request, RequestElement, Wanted};
+use crate::rsna::{rsn_is_good, EapMethod, RsnaLogging};
+use crate::station::Station;
+use crate::trace::Record;
+use crate::transition::time_is_good;
+use std::collections::BTreeMap;
+
+/// The event types 0, 1 and 2.
+const KINDS: [&str; 3] = ["transition", "RSNA event", "peer link"];
+
+/// What every kind must have had: logged, asked for, reported, written, read.
+const OF_EVERY_KIND: [&str; 18] = [
+    "logged",
+    "logging refused by 14",
+    "dropped for one of its kind",
+    "dropped for one of another kind",
+    "asked for",
+    "asked for with a subelement passed over",
+    "subelement past the end (7)",
+    "subelement of wrong length (7)",
+    "subelement repeated (8)",
+    "reported",
+    "none to report",
+    "request written",
+    "read",
+    "read without event",
+    "read with status 1 to 4",
+    "wrong body (17)",
+    "wrong body and wrong time (17)",
+    "wrong time when read (14)",
+];
+
+/// The conditions, an EAP method by its length, channel 0 and the results that match values are about apart.
+const CONDITIONS: [&str; 15] = [
+    "target",
+    "source",
+    "threshold",
+    "match value, result 0",
+    "match value, other result",
+    "frequent",
+    "RSNA target",
+    "authentication type",
+    "EAP method of 1 octet",
+    "EAP method of 8 octets",
+    "RSNA match value, result 0",
+    "RSNA match value, other result",
+    "peer address",
+    "channel",
+    "channel 0",
+];
+
+/// What every condition must have done to an event at a report call.
+const OF_EVERY_CONDITION: [&str; 2] = ["let through", "held back by it alone"];
+
+/// What is not said of every kind or condition.
+const OTHERS: [(&str, &[&str]); 9] = [
+    ("frequent", &["other kinds counted too would change it"]),
+    (
+        "RSN element",
+        &["absent", "of 22 octets", "of another length (17)", "of another length, wrong time (14)"],
+    ),
+    ("EAP method logged", &["of 8 octets", "of 1 octet, garbage behind it"]),
+    ("EAP method asked for", &["254 with 1 octet (7)", "another with 8 octets (7)", "of 0, 2 to 7 or 9 (7)"]),
+    ("EAP method written", &["of 8 octets", "of 1 octet, garbage behind it"]),
+    ("RSNA event reported", &["24", "31", "46", "53"]),
+    ("RSNA event read", &["24", "31", "46", "53", "254 in 24 or 46 (17)", "another in 31 or 53 (17)"]),
+    (
+        "type 3 and up",
+        &["body that is no subelement list", "answered Incapable", "written with none", "kept unread"],
+    ),
+    ("log, frame, trace", &WHOLES),
+];
+
+/// Logs, frames and traces as a whole.
+const WHOLES: [&str; 7] = [
+    "full log of three kinds at a report call",
+    "frame with events of three kinds",
+    "frame of 2,304 octets",
+    "trace refused at 07",
+    "trace refused at 08",
+    "trace refused at 10 with conditions of type 1",
+    "trace refused at 10 with conditions of type 2",
+];
+
+/// What a count is about, and what was seen of it.
+type Case = (&'static str, &'static str);
+
+/// All cases, in the order in which they are printed.
+fn cases() -> Vec<Case> {
+    let of = |names: &[&'static str], seen: &[&'static str]| -> Vec<Case> {
+        names.iter().flat_map(|name| seen.iter().map(|what| (*name, *what))).collect()
+    };
+    let mut all = of(&KINDS, &OF_EVERY_KIND);
+    all.extend(of(&CONDITIONS, &OF_EVERY_CONDITION));
+    all.extend(OTHERS.iter().flat_map(|(name, seen)| of(&[*name], seen)));
+    all
+}
+
+/// How often each case was seen.
+#[derive(Clone, Debug, Default)]
+pub struct Covered(BTreeMap<Case, usize>);
+
+impl Covered {
+    /// Each case and its count.
+    pub fn counts(&self) -> Vec<(Case, usize)> {
+        let counts: Vec<_> = cases().into_iter().map(|case| (case, self.count(case))).collect();
+        let listed = counts.iter().filter(|(_, number)| *number > 0).count();
+        assert_eq!(listed, self.0.len(), "every case that is counted is among those that must be");
+        counts
+    }
+
+    fn count(&self, case: Case) -> usize {
+        self.0.get(&case).copied().unwrap_or(0)
+    }
+
+    /// The cases of another trace too.
+    pub fn add(&mut self, other: &Covered) {
+        for (case, number) in &other.0 {
+            *self.0.entry(*case).or_default() += number;
+        }
+    }
+
+    fn saw(&mut self, name: &'static str, what: &'static str) {
+        *self.0.entry((name, what)).or_default() += 1;
+    }
+
+    /// The same of a kind; other types are none.
+    fn saw_kind(&mut self, ty: u8, what: &'static str) {
+        if let Some(name) = KINDS.get(usize::from(ty)) {
+            self.saw(name, what);
+        }
+    }
+
+    fn saw_whole(&mut self, what: &'static str) {
+        self.saw("log, frame, trace", what);
+    }
+
+    /// What a report call will choose from: each condition by what it does to the events of its element's type.
+    pub fn before(&mut self, station: &Station, record: &Record) {
+        let Record::Report { console, kind: Kind::Event, buffer: 260.., .. } = record else { return };
+        let Some(request) = station.event_request(console) else { return };
+        let log = station.log();
+        if log.len() == 64 && (0..3).all(|ty| log.iter().any(|event| event.body.ty() == ty)) {
+            self.saw_whole("full log of three kinds at a report call");
+        }
+        for (asked, position) in request.candidates(log) {
+            let (event, up_to) = (&log[position], &log[..=position]);
+            let failed: Vec<&Condition> = asked.iter().filter(|one| !one.admits(event, up_to)).collect();
+            match failed[..] {
+                [] => asked.iter().for_each(|one| self.saw(condition_name(one, &event.body), "let through")),
+                [one] => self.saw(condition_name(one, &event.body), "held back by it alone"),
+                _ => {}
+            }
+            for one in asked {
+                if let Condition::Frequent { threshold, interval } = one {
+                    let every_kind = near(event, up_to, *interval).count() > usize::from(*threshold);
+                    if every_kind != one.admits(event, up_to) {
+                        self.saw("frequent", "other kinds counted too would change it");
+                    }
+                }
+            }
+        }
+    }
+
+    /// What a call was and what was printed for it. `oldest` is the type of the event that a full log drops
+    /// next; `chosen` is what a report call chose.
+    pub fn after(
+        &mut self,
+        record: &Record,
+        oldest: Option<u8>,
+        printed: &str,
+        chosen: Option<&ReportFrame>,
+    ) {
+        match record {
+            Record::Log { .. } => self.logging(0, oldest, printed),
+            Record::LogRsna { logging, .. } => {
+                self.logging(1, oldest, printed);
+                self.rsna_logging(logging);
+            }
+            Record::LogPeerLink { .. } => self.logging(2, oldest, printed),
+            Record::Frame { octets, .. } if printed == "accepted\n" => self.taken(octets),
+            Record::Frame { octets, .. } => self.refused_request(octets, printed),
+            Record::Write { kind: Kind::Event, wanted, .. } if printed.starts_with("length ") => {
+                wanted.iter().for_each(|element| self.written(element));
+            }
+            Record::Read { destination, octets } => match read_report(destination, octets) {
+                Ok(frame) => frame.elements.iter().for_each(|element| self.read(element)),
+                Err(refusal) => self.refused_report(octets, refusal.number, refusal.place),
+            },
+            _ => {}
+        }
+        if let Some(frame) = chosen {
+            self.given(frame, printed);
+        }
+    }
+
+    /// A record that was refused.
+    pub fn refused_record(&mut self, octets: &[u8]) {
+        match *octets {
+            [7, ..] => self.saw_whole("trace refused at 07"),
+            [8, ..] => self.saw_whole("trace refused at 08"),
+            // Length and filling octet, action 0, dialog token, one element: token, type, bound, conditions.
+            [0x10, _, _, _, 0, _, 1, _, 1, _, 0, 1..=255, ..] => {
+                self.saw_whole("trace refused at 10 with conditions of type 1");
+            }
+            [0x10, _, _, _, 0, _, 1, _, 2, _, 0, 1..=255, ..] => {
+                self.saw_whole("trace refused at 10 with conditions of type 2");
+            }
+            _ => {}
+        }
+    }
+
+    fn logging(&mut self, ty: u8, oldest: Option<u8>, printed: &str) {
+        if printed == "refused 14 at 0\n" {
+            self.saw_kind(ty, "logging refused by 14");
+        }
+        if printed != "accepted\n" {
+            return;
+        }
+        self.saw_kind(ty, "logged");
+        match oldest {
+            Some(dropped) if dropped == ty => self.saw_kind(dropped, "dropped for one of its kind"),
+            Some(dropped) => self.saw_kind(dropped, "dropped for one of another kind"),
+            None => {}
+        }
+    }
+
+    fn rsna_logging(&mut self, logging: &RsnaLogging) {
+        match (rsn_is_good(&logging.rsn), time_is_good(&logging.time)) {
+            (false, true) => self.saw("RSN element", "of another length (17)"),
+            (false, false) => self.saw("RSN element", "of another length, wrong time (14)"),
+            (true, false) => {}
+            (true, true) => {
+                let absent = logging.rsn.is_empty();
+                self.saw("RSN element", if absent { "absent" } else { "of 22 octets" });
+                self.eap_handed_in("EAP method logged", &logging.eap);
+            }
+        }
+    }
+
+    /// An EAP method in eight octets.
+    fn eap_handed_in(&mut self, name: &'static str, eight: &[u8]) {
+        if eight[0] == EapMethod::EXPANDED {
+            self.saw(name, "of 8 octets");
+        } else if eight[1..] != [0; 7] {
+            self.saw(name, "of 1 octet, garbage behind it");
+        }
+    }
+
+    /// An accepted request frame.
+    fn taken(&mut self, octets: &[u8]) {
+        let frame = read_request(octets).expect("the frame was accepted");
+        if frame.kind == Kind::Diagnostic {
+            return;
+        }
+        for RequestElement { ty, conditions, subelements, .. } in frame.elements {
+            self.saw_kind(ty, "asked for");
+            if subelements > conditions.len() {
+                self.saw_kind(ty, "asked for with a subelement passed over");
+            }
+        }
+        let mut at = HEADER;
+        while let Some(element) = part_at(octets, at) {
+            let own = element.id == frame.kind.request_id();
+            if own && !is_reported(element.body[1]) && count_subelements(element.body, 3).is_err() {
+                self.saw("type 3 and up", "body that is no subelement list");
+            }
+            at = element.next;
+        }
+    }
+
+    /// A refused request frame: 7 and 8 by the type of their element.
+    fn refused_request(&mut self, octets: &[u8], printed: &str) {
+        let Some((number @ (7 | 8), place)) = refusal_printed(printed) else { return };
+        let mut at = HEADER;
+        let mut element = part_at(octets, at);
+        while let Some(before) = element.as_ref().filter(|part| part.next <= place) {
+            at = before.next;
+            element = part_at(octets, at);
+        }
+        let Some(element) = element.filter(|part| part.id == Kind::Event.request_id()) else { return };
+        let ty = element.body[1];
+        match (number, part_at(&octets[..element.next], place)) {
+            (7, None) => self.saw_kind(ty, "subelement past the end (7)"),
+            (7, Some(subelement)) => {
+                self.saw_kind(ty, "subelement of wrong length (7)");
+                if (ty, subelement.id) == (1, 2) {
+                    self.wrong_eap(subelement.body);
+                }
+            }
+            _ => self.saw_kind(ty, "subelement repeated (8)"),
+        }
+    }
+
+    /// An EAP method that is not as long as its first octet says.
+    fn wrong_eap(&mut self, body: &[u8]) {
+        let what = match body.len() {
+            1 => "254 with 1 octet (7)",
+            8 => "another with 8 octets (7)",
+            _ => "of 0, 2 to 7 or 9 (7)",
+        };
+        self.saw("EAP method asked for", what);
+    }
+
+    /// An element that the request writer wrote with conditions at hand.
+    fn written(&mut self, element: &Wanted) {
+        if element.conditions.is_empty() {
+            return;
+        }
+        if !is_reported(element.ty) {
+            return self.saw("type 3 and up", "written with none");
+        }
+        self.saw_kind(element.ty, "request written");
+        for (_, eight) in element.conditions.iter().filter(|(id, _)| (element.ty, *id) == (1, 2)) {
+            self.eap_handed_in("EAP method written", eight);
+        }
+    }
+
+    /// A frame that a report call gave.
+    fn given(&mut self, frame: &ReportFrame, printed: &str) {
+        if printed.starts_with("length 2304\n") {
+            self.saw_whole("frame of 2,304 octets");
+        }
+        let has =
+            |ty| frame.elements.iter().any(|one| matches!(&one.rest, Rest::Event(_, b) if b.ty() == ty));
+        if (0..3).all(has) {
+            self.saw_whole("frame with events of three kinds");
+        }
+        for ReportElement { ty, status, rest, .. } in &frame.elements {
+            match (rest, status) {
+                (Rest::Event(_, body), _) => {
+                    self.saw_kind(*ty, "reported");
+                    self.rsna_length("RSNA event reported", body);
+                }
+                (Rest::Nothing, 0) => self.saw_kind(*ty, "none to report"),
+                (Rest::Nothing, _) => self.saw("type 3 and up", "answered Incapable"),
+                _ => {}
+            }
+        }
+    }
+
+    /// The four body lengths of an RSNA event: token, type and status, 9 of time, and its own.
+    fn rsna_length(&mut self, name: &'static str, body: &EventBody) {
+        if let EventBody::Rsna(_) = body {
+            self.saw(
+                name,
+                match 12 + body.octets().len() {
+                    24 => "24",
+                    31 => "31",
+                    46 => "46",
+                    _ => "53",
+                },
+            );
+        }
+    }
+
+    /// An element that the report reader read.
+    fn read(&mut self, element: &ReportElement) {
+        let ReportElement { ty, status, rest, .. } = element;
+        match (rest, status) {
+            (Rest::Event(_, body), _) => {
+                self.saw_kind(*ty, "read");
+                self.rsna_length("RSNA event read", body);
+            }
+            (Rest::Nothing, 0) => self.saw_kind(*ty, "read without event"),
+            (Rest::Nothing, _) => self.saw_kind(*ty, "read with status 1 to 4"),
+            (Rest::Unread(_), _) => self.saw("type 3 and up", "kept unread"),
+            (Rest::Subelements(_), _) => {}
+        }
+    }
+
+    /// A report frame that was refused at an element.
+    fn refused_report(&mut self, octets: &[u8], number: u8, place: usize) {
+        let element = part_at(octets, place).filter(|part| part.id == Kind::Event.report_id());
+        let (14 | 17, Some(element)) = (number, element) else { return };
+        let [_, ty, 0, rest @ ..] = element.body else { return };
+        if number == 14 {
+            return self.saw_kind(*ty, "wrong time when read (14)");
+        }
+        self.saw_kind(*ty, "wrong body (17)");
+        if rest.first_chunk().is_some_and(|time| !time_is_good(time)) {
+            self.saw_kind(*ty, "wrong body and wrong time (17)");
+        }
+        let first = element.body.get(22);
+        match (ty, element.body.len(), first == Some(&EapMethod::EXPANDED)) {
+            (1, 24 | 46, true) => self.saw("RSNA event read", "254 in 24 or 46 (17)"),
+            (1, 31 | 53, false) => self.saw("RSNA event read", "another in 31 or 53 (17)"),
+            _ => {}
+        }
+    }
+}
+
+/// The name of a condition, beside the event that it is asked of.
+fn condition_name(condition: &Condition, body: &EventBody) -> &'static str {
+    match (condition, body) {
+        (Condition::Target(_), _) => "target",
+        (Condition::Source(_), _) => "source",
+        (Condition::Threshold(_), _) => "threshold",
+        (Condition::TransitionResult(_), EventBody::Transition(event)) if event.result == 0 => {
+            "match value, result 0"
+        }
+        (Condition::TransitionResult(_), _) => "match value, other result",
+        (Condition::Frequent { .. }, _) => "frequent",
+        (Condition::RsnaTarget(_), _) => "RSNA target",
+        (Condition::Authentication(_), _) => "authentication type",
+        (Condition::Eap(method), _) if method.octets().len() == 1 => "EAP method of 1 octet",
+        (Condition::Eap(_), _) => "EAP method of 8 octets",
+        (Condition::RsnaResult(_), EventBody::Rsna(event)) if event.result == 0 => {
+            "RSNA match value, result 0"
+        }
+        (Condition::RsnaResult(_), _) => "RSNA match value, other result",
+        (Condition::Peer(_), _) => "peer address",
+        (Condition::Channel { channel: 0, .. }, _) => "channel 0",
+        (Condition::Channel { .. }, _) => "channel",
+    }
+}
+
+/// The number and the place of a printed refusal.
+fn refusal_printed(printed: &str) -> Option<(u8, usize)> {
+    let (number, place) = printed.strip_prefix("refused ")?.trim_end().split_once(" at ")?;
+    Some((number.parse().ok()?, place.parse().ok()?))
+}
