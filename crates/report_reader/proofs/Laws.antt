@@ -28,7 +28,7 @@ use Rattle.events.proofs.RsnaLaws.{method-some}
 use Rattle.report_reader.specs.declared.Step.{Step}
 use Rattle.report_reader.specs.declared.Verdict.{Verdict}
 use Rattle.report_reader.specs.declared.Walk.{Walk}
-use Rattle.report_reader.specs.Reader.{refusedStep, skippedStep, foundStep, plainStep, loggedStep, bareStep, reportLength, isRsnaLength, isEventLength, typedStep, eventStep, walkedStep, diagnosticStep, kindStep, ownReportStep, stepAt, elementReadAt, Reading, reading, gathered, unread, readStep, readElements}
+use Rattle.report_reader.specs.Reader.{refusedStep, skippedStep, plainStep, loggedStep, bareStep, reportLength, isRsnaLength, isEventLength, typedStep, eventStep, walkedStep, diagnosticStep, kindStep, ownReportStep, stepAt, elementReadAt, Reading, reading, gathered, unread, readStep, readElements}
 use Rattle.report_reader.specs.Internal.{verdictOf, walkOf, foundElement, Fits, stepOf}
 
 -- ---- a time, read of the part that it stands in
@@ -164,19 +164,7 @@ module _ (s : List ℕ) (kind : Kind) (at : ℕ) where
   pub step-fits : {v : Verdict} → v ≡ verdictOf (stepAt s kind at) → v .found ≡ true → Fits s at v
   step-fits e f = rw e (stands-fits s at (stands s kind at) (rw e at f))
 
--- ---- where an event stands, an element was found
-
-stands-found : (s : List ℕ) (at : ℕ) {t : Step} → Stands s at t → t .element .logged ≡ true → t ≡ foundStep (t .element) (t .rest) (t .next .at)
-unfolding plainStep loggedStep
-stands-found s at (is-refused n p h) e = never e
-stands-found s at (is-skipped n on within) e = never e
-stands-found s at (is-plain n subs few h) e = refl
-stands-found s at (is-logged n few h) e = refl
-
-pub logged-found : (s : List ℕ) (kind : Kind) (at : ℕ) (t : Step) → t ≡ stepAt s kind at → t .element .logged ≡ true → t ≡ foundStep (t .element) (t .rest) (t .next .at)
-logged-found s kind at t e = rw e (stands-found s at (stands s kind at))
-
--- ---- and an element that was found takes five octets at least, one with an event 26, and those behind its status stand in the frame
+-- ---- an element that was found takes five octets at least, one with an event 26, and those behind its status stand in the frame
 
 pub record Extent (s : List ℕ) (at : ℕ) (t : Step) : Type 0 where
   pub least : at + 5 ≤ t .next .at
