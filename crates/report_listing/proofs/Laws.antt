@@ -26,7 +26,7 @@ use Rattle.report_reader.specs.declared.Report.{Report}
 use Rattle.report_reader.specs.Reader.{stepAt, reportOf, reportKind, readReport, ElementRead, elementReadAt, Reading, reading, gathered, unread, readStep, readElements}
 use Rattle.report_reader.proofs.Laws.{Forward, goes-on, Extent, found-extent}
 use Rattle.report_listing.specs.Listing.{timeField, reportElementLine, reportElementLines}
-use Rattle.report_listing.specs.Internal.{unreadMost, tailMost, lineMost, linesMost, stepLine, stepMost}
+use Rattle.report_listing.specs.Internal.{unreadMost, tailMost, reportLineMost, linesMost, stepLine, stepMost}
 
 -- ---- a time field
 
@@ -46,10 +46,10 @@ pub tail-most : (b : Bool) → unreadMost ≤ tailMost b
 tail-most true = omega arith
 tail-most false = omega arith
 
-line-most : (s : List ℕ) (cur : ℕ) (t : Step) → Extent s cur t → lineMost (t .element .logged) ≤ 14 * (t .next .at - cur)
+line-most : (s : List ℕ) (cur : ℕ) (t : Step) → Extent s cur t → reportLineMost (t .element .logged) ≤ 14 * (t .next .at - cur)
 line-most s cur t x = go (t .element .logged) (x .event)
   where
-    go : (b : Bool) → (b ≡ true → cur + 26 ≤ t .next .at) → lineMost b ≤ 14 * (t .next .at - cur)
+    go : (b : Bool) → (b ≡ true → cur + 26 ≤ t .next .at) → reportLineMost b ≤ 14 * (t .next .at - cur)
     go true f = omega (arith, f refl)
     go false f = omega (arith, x .least)
 
@@ -109,7 +109,7 @@ module _ {s : List ℕ} {kind : Kind} {from : ℕ} {old buf : List ℕ} {at cur 
             let x : ElementRead = elementReadAt s t in
             let e : reading noRefusal (t .next .at) (l .es ++ (x ∷ [])) ≡ readStep s kind (reading noRefusal cur (l .es)) = rw (← is, eq-eqb (t .refusal .number) 0 accepted, f) in
             let g = on in
-            let p : Puts (lineMost (t .element .logged)) (reportElementLine kind x) at buf n y = rw f at q in
+            let p : Puts (reportLineMost (t .element .logged)) (reportElementLine kind x) at buf n y = rw f at q in
             record {
               es = l .es ++ (x ∷ []);
               rest = again (length s - t .next .at) (l .rest) goes (omega (arith, g .on)) e;

@@ -26,8 +26,8 @@ abbrev pub tailMost : Bool → ℕ
 tailMost true = eventMost
 tailMost false = unreadMost
 
-abbrev pub lineMost : Bool → ℕ
-lineMost logged = headMost + tailMost logged + 1
+abbrev pub reportLineMost : Bool → ℕ
+reportLineMost logged = headMost + tailMost logged + 1
 
 -- the lines of the elements up to a position of the frame
 abbrev pub linesMost : ℕ → ℕ
@@ -39,4 +39,4 @@ unfoldable pub stepLine : List ℕ → Kind → Step → List ℕ
 stepLine s kind t = if t .found then reportElementLine kind (elementReadAt s t) else []
 
 unfoldable pub stepMost : Step → ℕ
-stepMost t = if t .found then lineMost (t .element .logged) else 0
+stepMost t = if t .found then reportLineMost (t .element .logged) else 0

@@ -136,5 +136,5 @@ inputListing input =
     else frameListing (addressAt input 0) (drop 6 input)
 
 -- how many octets a listing has at most: the first line, and 14 for each octet that the elements take of a frame
-abbrev pub listingMost : ℕ
-listingMost = 52 + 14 * (longestFrame - 3)
+abbrev pub reportListingMost : ℕ
+reportListingMost = 52 + 14 * (longestFrame - 3)

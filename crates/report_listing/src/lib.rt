@@ -40,8 +40,8 @@ ghost use Rattle.laws.specs.Buffers.{wrote};
 ghost use Rattle.texts.specs.Text.{Puts, written, Within};
 ghost use Rattle.report_reader.specs.Decoders.{decoded};
 ghost use Rattle.report_reader.specs.Reader.{elementRead, readElements};
-ghost use Rattle.report_listing.specs.Listing.{timeField, dateText, clockText, timeText, colonText, signalsText, transitionText, vendorText, rsnText, rsnaText, peerLinkText, eventText, unreadText, eventTail, tailText, headText, reportElementLine, reportElementLines, frameListing, inputListing, listingMost};
-ghost use Rattle.report_listing.specs.Internal.{eventMost, unreadMost, headMost, tailMost, lineMost, linesMost, stepLine, stepMost};
+ghost use Rattle.report_listing.specs.Listing.{timeField, dateText, clockText, timeText, colonText, signalsText, transitionText, vendorText, rsnText, rsnaText, peerLinkText, eventText, unreadText, eventTail, tailText, headText, reportElementLine, reportElementLines, frameListing, inputListing, reportListingMost};
+ghost use Rattle.report_listing.specs.Internal.{eventMost, unreadMost, headMost, tailMost, reportLineMost, linesMost, stepLine, stepMost};
 
 // What the longest listing has at most: 52 octets for the first line, and 14 for each octet that the
 // elements take of a frame.
@@ -246,7 +246,7 @@ fn put_head(buf: &mut [u8], at: usize, kind: Kind, e: Element) -> usize
 
 // The line of an element, with the octets behind its status.
 fn put_element(buf: &mut [u8], at: usize, kind: Kind, e: Element, o: &[u8]) -> usize
-    ensures { λ r. ⌜ Puts (lineMost (e .logged)) (reportElementLine kind (elementRead e (now (o .entry)))) at (now (buf .entry)) r (now (buf .exit)) ⌝ }
+    ensures { λ r. ⌜ Puts (reportLineMost (e .logged)) (reportElementLine kind (elementRead e (now (o .entry)))) at (now (buf .entry)) r (now (buf .exit)) ⌝ }
 {
     let next = put_head(buf, at, kind, e);
     let next = put_tail(buf, next, kind, e, o);
@@ -286,7 +286,7 @@ fn put_elements(buf: &mut [u8], from: usize, s: &[u8], kind: Kind) -> usize
 }
 
 fn put_listing(buf: &mut [u8], destination: [u8; 6], s: &[u8]) -> usize
-    ensures { λ n. ⌜ Puts listingMost (frameListing destination (now (s .entry))) 0 (now (buf .entry)) n (now (buf .exit)) ⌝ }
+    ensures { λ n. ⌜ Puts reportListingMost (frameListing destination (now (s .entry))) 0 (now (buf .entry)) n (now (buf .exit)) ⌝ }
 {
     let report = read_report(destination, s);
     let refusal = report.refusal;
@@ -308,13 +308,13 @@ fn put_listing(buf: &mut [u8], destination: [u8; 6], s: &[u8]) -> usize
 // Reads a report frame for a destination and lists it; the text's length.
 pub fn list_report(destination: [u8; 6], s: &[u8], buf: &mut [u8; LISTING]) -> usize
     ensures { λ n. ⌜ wrote n (now (buf .exit)) ≡ written (frameListing destination (now (s .entry))) (now (buf .entry)) ⌝ }
-    ensures { λ n. ⌜ Within listingMost n (now (buf .exit)) ⌝ }
+    ensures { λ n. ⌜ Within reportListingMost n (now (buf .exit)) ⌝ }
 {
     put_listing(buf, destination, s)
 }
 
 fn put_input(buf: &mut [u8], input: &[u8]) -> usize
-    ensures { λ n. ⌜ Puts listingMost (inputListing (now (input .entry))) 0 (now (buf .entry)) n (now (buf .exit)) ⌝ }
+    ensures { λ n. ⌜ Puts reportListingMost (inputListing (now (input .entry))) 0 (now (buf .entry)) n (now (buf .exit)) ⌝ }
 {
     if input.len() < 6 {
         return put_refusal(buf, 0, Refusal::new(causes::BAD_FRAME_LENGTH, 0));
@@ -325,7 +325,7 @@ fn put_input(buf: &mut [u8], input: &[u8]) -> usize
 // Lists the input of the program `report`: six octets of destination, then the frame.
 pub fn list_input(input: &[u8], buf: &mut [u8; LISTING]) -> usize
     ensures { λ n. ⌜ wrote n (now (buf .exit)) ≡ written (inputListing (now (input .entry))) (now (buf .entry)) ⌝ }
-    ensures { λ n. ⌜ Within listingMost n (now (buf .exit)) ⌝ }
+    ensures { λ n. ⌜ Within reportListingMost n (now (buf .exit)) ⌝ }
 {
     put_input(buf, input)
 }

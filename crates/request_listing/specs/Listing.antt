@@ -38,5 +38,5 @@ requestListing r =
 abbrev pub elementMost : ℕ
 elementMost = 56
 
-abbrev pub listingMost : ℕ
-listingMost = 51 + elementMost * elementCapacity
+abbrev pub requestListingMost : ℕ
+requestListingMost = 51 + elementMost * elementCapacity

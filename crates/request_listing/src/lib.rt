@@ -16,7 +16,7 @@ ghost use Prim.Native.Nat.{_*_};
 ghost use lib.ListN.{take};
 ghost use Rattle.laws.specs.Buffers.{wrote};
 ghost use Rattle.texts.specs.Text.{Puts, written, Within};
-ghost use Rattle.request_listing.specs.Listing.{limitField, requestElementLine, requestElementLines, requestListing, elementMost, listingMost};
+ghost use Rattle.request_listing.specs.Listing.{limitField, requestElementLine, requestElementLines, requestListing, elementMost, requestListingMost};
 ghost use Rattle.requests.specs.Elements.{elementCapacity};
 ghost use Rattle.requests.specs.Requests.{readRequest};
 
@@ -67,7 +67,7 @@ fn put_lines(
 
 // Lists a request.
 fn put_listing(buf: &mut [u8], r: Request) -> usize
-    ensures { λ n. ⌜ Puts listingMost (requestListing r) 0 (now (buf .entry)) n (now (buf .exit)) ⌝ }
+    ensures { λ n. ⌜ Puts requestListingMost (requestListing r) 0 (now (buf .entry)) n (now (buf .exit)) ⌝ }
 {
     if r.refusal.number != 0 {
         let refusal = r.refusal;
@@ -82,7 +82,7 @@ fn put_listing(buf: &mut [u8], r: Request) -> usize
 // Reads a frame and lists it; the text's length.
 pub fn list_frame(frame: &[u8], buf: &mut [u8; LISTING]) -> usize
     ensures { λ n. ⌜ wrote n (now (buf .exit)) ≡ written (requestListing (readRequest elementCapacity (now (frame .entry)))) (now (buf .entry)) ⌝ }
-    ensures { λ n. ⌜ Within listingMost n (now (buf .exit)) ⌝ }
+    ensures { λ n. ⌜ Within requestListingMost n (now (buf .exit)) ⌝ }
 {
     put_listing(buf, read_request(frame))
 }

@@ -8,7 +8,7 @@ use borrow.Author.Tests.{lt-ltb, le-ltb}
 use borrow.Author.Needs.{needs}
 use Rattle.laws.specs.Choice.{if_then_else_}
 use Rattle.texts.proofs.PutLaws.{short, at-most}
-use Rattle.report_listing.specs.Listing.{inputListing, listingMost}
+use Rattle.report_listing.specs.Listing.{inputListing, reportListingMost}
 use Rattle.report_listing.proofs.put_input.Statement.{statement}
 use Rattle.report_listing.proofs.put_input.Tie as tie
 
@@ -23,7 +23,7 @@ same-length c = search needs
 
 returns : tie.Need-returns
 unfolding inputListing if_then_else_
-returns c = rw (lt-ltb _ _ (c .before .before .before .before .before .if1 .taken)) (at-most listingMost (omega arith) (short (rw (c .before .before .before .new .ensures) at (c .before .before .put-refusal .ensures))))
+returns c = rw (lt-ltb _ _ (c .before .before .before .before .before .if1 .taken)) (at-most reportListingMost (omega arith) (short (rw (c .before .before .before .new .ensures) at (c .before .before .put-refusal .ensures))))
 
 address-at-requires : tie.Need-address-at-requires
 address-at-requires c κs = search needs

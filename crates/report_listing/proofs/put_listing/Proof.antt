@@ -4,7 +4,7 @@ use native.Mathlib.Omega.{arith}
 use borrow.Author.Tests.{eq-eqb, ne-eqb}
 use Rattle.laws.specs.Choice.{if_then_else_}
 use Rattle.texts.proofs.PutLaws.{short, at-most, both}
-use Rattle.report_listing.specs.Listing.{reportListing, listingMost}
+use Rattle.report_listing.specs.Listing.{reportListing, reportListingMost}
 use Rattle.report_listing.proofs.Laws.{readable}
 use borrow.Author.Needs.{needs}
 use Rattle.report_listing.proofs.put_listing.Statement.{statement}
@@ -21,7 +21,7 @@ same-length c = search needs
 
 returns : tie.Need-returns
 unfolding reportListing if_then_else_
-returns c = rw (← c .before .before .before .before .before .before .before .read-report .ensures, ne-eqb _ _ (c .before .before .before .before .if1 .taken)) (at-most listingMost (omega arith) (short (c .before .before .put-refusal .ensures)))
+returns c = rw (← c .before .before .before .before .before .before .before .read-report .ensures, ne-eqb _ _ (c .before .before .before .before .if1 .taken)) (at-most reportListingMost (omega arith) (short (c .before .before .put-refusal .ensures)))
 
 slice-aggregate-put-frame : tie.Need-slice-aggregate-put-frame
 slice-aggregate-put-frame c = search needs
@@ -42,7 +42,7 @@ returns-2 : tie.Need-returns-2
 unfolding reportListing if_then_else_
 returns-2 c =
     let few = readable _ _ _ (c .before .before .before .before .before .before .before .before .before .before .before .before .before .read-report .ensures) (c .before .before .before .before .before .before .before .before .before .before .if1 .left) .few in
-    rw (← c .before .before .before .before .before .before .before .before .before .before .before .before .before .read-report .ensures, eq-eqb _ _ (c .before .before .before .before .before .before .before .before .before .before .if1 .left)) (at-most listingMost (omega (arith, few)) (both (rw (c .before .before .before .before .before .before .before .report-action .ensures) at (c .before .before .before .before .before .before .put-frame .ensures)) (c .before .before .put-elements .ensures)))
+    rw (← c .before .before .before .before .before .before .before .before .before .before .before .before .before .read-report .ensures, eq-eqb _ _ (c .before .before .before .before .before .before .before .before .before .before .if1 .left)) (at-most reportListingMost (omega (arith, few)) (both (rw (c .before .before .before .before .before .before .before .report-action .ensures) at (c .before .before .before .before .before .before .put-frame .ensures)) (c .before .before .put-elements .ensures)))
 
 pub put-listing-spec : {M : Type 1} → statement M
 put-listing-spec =

@@ -4,7 +4,7 @@ use native.Mathlib.Omega.{arith}
 use borrow.Author.Tests.{eq-eqb, ne-eqb}
 use Rattle.laws.specs.Choice.{if_then_else_}
 use Rattle.texts.proofs.PutLaws.{short, at-most, both}
-use Rattle.request_listing.specs.Listing.{requestListing, listingMost}
+use Rattle.request_listing.specs.Listing.{requestListing, requestListingMost}
 use borrow.Author.Needs.{needs}
 use Rattle.request_listing.proofs.put_listing.Statement.{statement}
 use Rattle.request_listing.proofs.put_listing.Tie as tie
@@ -17,7 +17,7 @@ same-length c = search needs
 
 returns : tie.Need-returns
 unfolding requestListing if_then_else_
-returns c = rw (ne-eqb _ _ (c .before .before .before .before .before .if1 .taken)) (at-most listingMost (omega arith) (short (c .before .before .put-refusal .ensures)))
+returns c = rw (ne-eqb _ _ (c .before .before .before .before .before .if1 .taken)) (at-most requestListingMost (omega arith) (short (c .before .before .put-refusal .ensures)))
 
 slice-aggregate-put-frame : tie.Need-slice-aggregate-put-frame
 slice-aggregate-put-frame c = search needs
