@@ -79,13 +79,14 @@ fn main() -> ExitCode {
 mod tests {
     use super::*;
 
-    /// The repository's sources, with a statement in front of the conversion's last line.
+    /// The repository's sources, with a statement at the beginning of the conversion.
     fn planted(statement: &str) -> Result<usize, Vec<String>> {
         let top = Path::new(env!("CARGO_MANIFEST_DIR")).join("../..");
         let mut sources = sources(&top).unwrap();
         let units = sources.iter_mut().find(|source| source.path == "crates/units/src/lib.rt").unwrap();
-        let (before, last) = units.text.split_once("        TimeUnits((tus").unwrap();
-        units.text = format!("{before}{statement}        TimeUnits((tus{last}");
+        let start = units.text.find("fn from_milliseconds").unwrap();
+        let body = start + units.text[start..].find("\n    {\n").unwrap();
+        units.text.insert_str(body + "\n    {\n".len(), statement);
         follow::follow(&sources, CONVERSION)
     }
 
