@@ -490,8 +490,7 @@ impl<S: Side> Runner<S> {
                 Call::Report(kind) => given.answers[i] = station.report(black_box(70_000), *kind, &mut given.buffers[i]),
                 Call::Roam => given.answers[i] = station.roam(black_box(70_000), black_box(&CONSOLES)),
                 Call::ChangeNetwork => given.answers[i] = station.change_network(black_box(70_000), black_box(&CONSOLES)),
-                Call::Read => given.reads[i] = S::read(black_box(&self.frame)),
-                Call::Convert(ages) => given.reads[i] = convert::<S>(black_box(ages)),
+                Call::Read | Call::Convert(_) => given.reads[i] = read::<S>(&case.call, &self.frame),
             }
         }
     }
@@ -521,9 +520,13 @@ fn probe<S: Side>(station: &mut S) -> Vec<(Answer, Vec<u8>)> {
     given
 }
 
-/// How many ages there are, and the sum of their TUs.
-fn convert<S: Side>(ages: &[u32]) -> (usize, u64) {
-    (ages.len(), ages.iter().map(|&age| S::time_units(age) as u64).sum())
+/// What a call without a station gives: of a frame its reading, of ages their count and the sum of their TUs.
+#[inline(never)]
+fn read<S: Side>(call: &Call, frame: &[u8]) -> (usize, u64) {
+    match call {
+        Call::Convert(ages) => (ages.len(), black_box(ages).iter().map(|&age| S::time_units(age) as u64).sum()),
+        _ => S::read(black_box(frame)),
+    }
 }
 
 fn median(times: &mut [f64]) -> f64 {
