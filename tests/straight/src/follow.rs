@@ -91,7 +91,7 @@ impl<'a> Crates<'a> {
 
     /// The functions of a path that starts with its crate; none where it makes a struct or a case of an enum;
     /// None where the crates do not have it.
-    fn at(&self, path: &[&str]) -> Option<Vec<Id>> {
+    fn named(&self, path: &[&str]) -> Option<Vec<Id>> {
         let [krate, middle @ .., name] = path else { return None };
         let owner = middle.last().copied().filter(|owner| owner.starts_with(char::is_uppercase));
         let found =
@@ -128,7 +128,7 @@ impl<'a> Crates<'a> {
 
     fn targets(&self, file: &File<'a>, owner: Option<&'a str>, callee: &Callee<'a>) -> Option<Vec<Id>> {
         match callee {
-            Callee::Path(path) => self.at(&self.whole(file, owner, path)),
+            Callee::Path(path) => self.named(&self.whole(file, owner, path)),
             Callee::Method(name) => {
                 let found = self.functions(|_, f| f.owner.is_some() && f.name == *name);
                 (!found.is_empty()).then_some(found)
@@ -178,7 +178,7 @@ impl Walk<'_, '_> {
 /// Follows a function, named by its whole path: how many functions were looked at, or each fault.
 pub fn follow(sources: &[Source], path: &str) -> Result<usize, Vec<String>> {
     let crates = Crates::new(sources).map_err(|fault| vec![fault])?;
-    let start = crates.at(&path.split("::").collect::<Vec<_>>()).unwrap_or_default();
+    let start = crates.named(&path.split("::").collect::<Vec<_>>()).unwrap_or_default();
     if start.is_empty() {
         return Err(vec![format!("no function `{path}`")]);
     }
