@@ -52,11 +52,11 @@ impl TimeUnits {
 
     const MOST: u64 = 65535;
 
-    // How many numbers of TUs there are up to MOST: the quotient by it is 0 for these, and above 0 for all others.
+    // How many numbers there are up to MOST: divided by it, these give 0 and all others more.
     const SPAN: u64 = 65536;
 
-    // The one conversion: rounded down, and MOST where it is more. `over` is 1 there and 0 elsewhere: one path for
-    // every age, no comparison in it (document 02, (b)).
+    // The one conversion: rounded down, and MOST where it is more. `over` is 1 there and 0 elsewhere, so
+    // that every age takes the same path (document 02, (b)).
     pub fn from_milliseconds(age: Milliseconds) -> TimeUnits
         ensures { λ r. ⌜ r .0 ≡ tusOf (age .0) ⌝ }
     {
