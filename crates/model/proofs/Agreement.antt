@@ -6,9 +6,6 @@ use mathlib.Core.List.{List, [], _∷_}
 use mathlib.Core.Option.{Option, none, some}
 use native.Mathlib.Omega.{arith}
 use Rattle.units.specs.Time.{turn, age, elapsedTop, elapsedSince}
-use Rattle.laws.specs.Choice.{if_then_else_}
-use Rattle.events.specs.Choice.{counted, countOf}
-use Rattle.events.specs.Conditions.{isNear, recentIn}
 use Rattle.model.specs.Clocks.{Timer, unset, counterClock, elapsedClock, elapsedAt}
 use Rattle.model.specs.Model.{Capacities, Address, Station, Call}
 use Rattle.model.specs.Stations.{setup, withoutLate, timed, readingOf, step}
@@ -96,9 +93,3 @@ old-and-new-agree most i l cs y =
     let b = setup-blank most i l in
     let g = setup most i l .station in
     agreed-from most g g (rw (b .2) (paired-first paired unset (b .0) (b .1))) (rw (b .2) (due-first (b .0) (b .1))) cs y
-
--- ---- the request's case: two transitions, a turn and a minute apart, with an interval of a minute
-
-storage : (recentIn age (0 ∷ 0 ∷ []) (0 ∷ 60000 ∷ []) 0 1 1 ≡ 2) × (recentIn elapsedSince (0 ∷ 0 ∷ []) (0 ∷ 4295027296 ∷ []) 0 1 1 ≡ 1)
-unfolding recentIn isNear countOf counted if_then_else_
-storage = (refl, refl)

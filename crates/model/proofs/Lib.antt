@@ -12,3 +12,4 @@ pub mod NextEvent
 pub mod Refusals
 pub mod Sound
 pub mod Starred
+pub mod StoredGate

@@ -15,3 +15,4 @@ pub mod Ages
 pub mod Agreement
 pub mod Premise
 pub mod Starred
+pub mod StoredGate

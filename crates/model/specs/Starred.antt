@@ -4,7 +4,7 @@
 use Prim.Native.Nat.{ℕ}
 use mathlib.Core.Path.{_≡_}
 use mathlib.Core.Bool.{Bool, true, false, not, _&&_}
-use mathlib.Core.List.{List, [], _∷_}
+use mathlib.Core.List.{List, [], _∷_, map}
 use mathlib.Core.Option.{Option, none, some}
 use lib.Dec.{eqb}
 use Rattle.laws.specs.Members.{any}
@@ -18,8 +18,8 @@ use Rattle.events.specs.declared.Entry.{Entry}
 use Rattle.events.specs.declared.Transition.{Transition}
 use Rattle.events.specs.Loggings.{transition, entryOf}
 use Rattle.events.specs.Conditions.{meets}
-use Rattle.model.specs.Clocks.{elapsedClock}
-use Rattle.model.specs.Model.{standard, Address, DiagnosticRequest, Station, clock, frame}
+use Rattle.model.specs.Clocks.{Clock, elapsedClock}
+use Rattle.model.specs.Model.{standard, Address, DiagnosticRequest, Station, Call, clock, frame}
 use Rattle.model.specs.Stations.{setup}
 use Rattle.model.specs.Runs.{run}
 
@@ -65,11 +65,15 @@ someIdentity = 13 ∷ 3 ∷ 1 ∷ 2 ∷ 3 ∷ 11 ∷ 1 ∷ 4 ∷ 12 ∷ 1 ∷ 5 
 unfoldable pub someConsole : Address
 someConsole = 2 ∷ 0 ∷ 0 ∷ 0 ∷ 0 ∷ 1 ∷ []
 
--- a gate that took a diagnostic with a timeout in seconds at one reading, and then a bare clock reading
-unfoldable pub waitedFrom : ℕ → ℕ → ℕ → Station
-waitedFrom seconds accepted reading =
-    run elapsedClock standard (setup standard someIdentity (someConsole ∷ []) .station)
-    (frame accepted someConsole someConsole (10 ∷ 2 ∷ 8 ∷ 80 ∷ 4 ∷ 6 ∷ 1 ∷ low seconds ∷ high seconds ∷ []) ∷ clock reading ∷ [])
+-- a gate that took calls
+unfoldable pub someGate : Clock → List Call → Station
+someGate k cs = run k standard (setup standard someIdentity (someConsole ∷ []) .station) cs
+
+-- is a diagnostic with a timeout in seconds, accepted at one reading, outstanding after bare clock readings?
+unfoldable pub waits : Clock → ℕ → ℕ → List ℕ → Bool
+waits k seconds accepted readings =
+    any (λ r. outstanding (r .diagnostics))
+    (someGate k (frame accepted someConsole someConsole (10 ∷ 2 ∷ 8 ∷ 80 ∷ 4 ∷ 6 ∷ 1 ∷ low seconds ∷ high seconds ∷ []) ∷ map clock readings) .requesters)
 
 -- a transition across the rollover; logged at 10 it takes 15 TU
 unfoldable pub slowTransition : Transition
@@ -99,7 +103,7 @@ caseHolds (crossing departure arrival milliseconds tus) = eqb (age arrival depar
 caseHolds (aged milliseconds tus) = eqb (tusOf milliseconds) tus
 caseHolds (refusedFrame o number place) = eqb (readRequest elementCapacity o .refusal .number) number && eqb (readRequest elementCapacity o .refusal .place) place
 caseHolds (timeout seconds accepted reading alive) =
-    equal alive (any (λ r. outstanding (r .diagnostics)) (waitedFrom seconds accepted reading .requesters))
+    equal alive (waits elapsedClock seconds accepted (reading ∷ []))
 caseHolds (threshold tus met) = equal met (meets elapsedSince (slow ∷ []) 0 (leastTransition tus) 0)
 
 unfoldable pub allHold : List Case → Bool
