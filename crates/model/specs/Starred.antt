@@ -66,7 +66,7 @@ unfoldable pub someConsole : Address
 someConsole = 2 ∷ 0 ∷ 0 ∷ 0 ∷ 0 ∷ 1 ∷ []
 
 -- a gate that took calls
-unfoldable pub someGate : Clock → List Call → Station
+abbrev pub someGate : Clock → List Call → Station
 someGate k cs = run k standard (setup standard someIdentity (someConsole ∷ []) .station) cs
 
 -- is a diagnostic with a timeout in seconds, accepted at one reading, outstanding after bare clock readings?
