@@ -20,7 +20,7 @@ use Rattle.model.specs.Independence.{answers, BelowTop}
 use Rattle.model.specs.Agreement.{replies}
 use Rattle.model.specs.Sound.{loggingCall}
 use Rattle.model.proofs.Refusals.{refused-call, refused-setup}
-use Rattle.model.proofs.Timers.{step-timer}
+use Rattle.model.proofs.CallLaws.{step-timer}
 use Rattle.model.proofs.Premise.{elapsed-is-true}
 use Rattle.model.proofs.Independence.{independent, independent-short-run}
 use Rattle.model.proofs.Agreement.{old-and-new-agree}

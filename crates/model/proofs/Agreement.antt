@@ -14,7 +14,7 @@ use Rattle.model.specs.Ages.{EachAge}
 use Rattle.model.specs.Agreement.{replies, Young, OldAndNewAgree}
 use Rattle.model.proofs.AgesLaws.{log-call, both-ages}
 use Rattle.model.proofs.Retimed.{Agree}
-use Rattle.model.proofs.Timers.{step-timer, blank, setup-blank}
+use Rattle.model.proofs.CallLaws.{step-timer, blank, setup-blank}
 use Rattle.model.proofs.Paired.{Pairing, Paired, paired-first, paired-step, paired-reply}
 use Rattle.model.proofs.Past.{Before, Rising, rising-pairs, new-past, Past, past-later, drop-past, act-past}
 

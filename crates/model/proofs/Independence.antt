@@ -11,18 +11,17 @@ use borrow.Author.Tests.{not-false}
 use Rattle.laws.specs.Choice.{if_then_else_}
 use Rattle.laws.proofs.Choice.{either, never}
 use Rattle.units.specs.Time.{age, elapsedTop, elapsedSince}
-use Rattle.events.specs.declared.Entry.{Entry}
 use Rattle.model.specs.Clocks.{Timer, unset, Clock, elapsedAt, elapsedClock}
-use Rattle.model.specs.Model.{Capacities, Address, Requester, Station, Call, clock, logging, frame, report, roam, change, accepted, Result}
+use Rattle.model.specs.Model.{Capacities, Address, Station, Call, clock, logging, frame, report, roam, change, accepted, Result}
 use Rattle.identities.specs.Identity.{goodIdentity}
-use Rattle.model.specs.Requesters.{badList, find}
+use Rattle.model.specs.Requesters.{badList}
 use Rattle.octets.specs.Refusals.{badRequesterList, badIdentity}
-use Rattle.model.specs.Stations.{result, refusedFor, newStation, nobody, setup, timed, withoutLate, tick, logEntry, logCall, Served, withRequester, serveFound, serveListed, requestCall, frameCall, reportCall, renameWith, rename, act, readingOf, step}
+use Rattle.model.specs.Stations.{result, refusedFor, newStation, nobody, setup, timed, withoutLate, tick, renameWith, rename, act, readingOf, step}
 use Rattle.model.specs.Runs.{run, Always, sender, Reply, reply, toSender}
 use Rattle.model.specs.Independence.{quiet, Origin, from, longer, isAccepted, originAfter, freshReply, answers, freshAnswers, BelowTop, Independent, IndependentShortRun, origin, IndependentCall, IndependentOfOthers}
 use Rattle.model.proofs.Seen.{seen, stepSeen, stepReply, seen-step, quiet-step, seen-reply}
 use Rattle.model.proofs.AgesLaws.{all-ages}
-use Rattle.model.proofs.Timers.{blank, setup-blank}
+use Rattle.model.proofs.CallLaws.{step-identity, blank, setup-blank}
 use Rattle.model.proofs.Paired.{Pairing, Paired, paired-first, paired-step, paired-reply}
 use Rattle.model.proofs.Premise.{below-top}
 
@@ -70,38 +69,6 @@ same-age : (n t a : ℕ) → elapsedSince (t + n) (a + n) ≡ elapsedSince t a
 same-age n t a = omega arith
 
 module _ (most : Capacities) where
-  -- ---- no call changes the identity
-
-  abbrev Same : Station → Result → Type 0
-  Same g x = x .station .identity ≡ g .identity
-
-  found-identity : (a : Address) (serve : Requester → Served) (b : List ℕ) (g : Station) (o : Option Requester) → Same g (serveFound a serve b g o)
-  unfolding serveFound withRequester
-  found-identity a serve b g none = refl
-  found-identity a serve b g (some r) = refl
-
-  renamed-identity : (log : List Entry) (l : List Address) (g : Station) (o : Option (List ℕ)) → g .identity ≡ o → Same g (renameWith log l g o)
-  unfolding renameWith
-  renamed-identity log l g none e = refl
-  renamed-identity log l g (some i) e = sym e
-
-  rename-identity : (log : List Entry) (l : List Address) (g : Station) → Same g (rename most log l g)
-  unfolding rename
-  rename-identity log l g = either (Same g) _ _ _ (λ _. refl) (λ _. renamed-identity log l g (g .identity) refl)
-
-  act-identity : (since : ℕ → ℕ → ℕ) (c : Call) (g : Station) → Same g (act since most c g)
-  unfolding act logCall logEntry requestCall frameCall reportCall serveListed
-  act-identity since (clock t) g = refl
-  act-identity since (logging t e) g = either (Same g) _ _ _ (λ _. refl) (λ _. refl)
-  act-identity since (frame t d a o) g = either (Same g) _ _ _ (λ _. refl) (λ _. found-identity a _ _ g (find a (g .requesters)))
-  act-identity since (report t a k b) g = found-identity a _ _ g (find a (g .requesters))
-  act-identity since (roam t l) g = rename-identity (g .log) l g
-  act-identity since (change t l) g = rename-identity [] l g
-
-  step-identity : (g : Station) (c : Call) → step elapsedClock most g c .station .identity ≡ g .identity
-  unfolding step withoutLate timed
-  step-identity g c = act-identity (elapsedClock .since) c (tick elapsedClock (readingOf c) g)
-
   -- ---- an accepted network change leaves what setup makes, but for the timer
 
   -- the identity of a station that was set up with i: i, and good, or none
@@ -189,7 +156,7 @@ module _ (most : Capacities) where
             either (λ (x : Origin). InStep x (step elapsedClock most g (change t l) .station)) _ _ _ (step-change t l) (λ _. step-longer (change t l) h)
 
     known-step : (g : Station) (c : Call) → Known i (g .identity) → Known i (step elapsedClock most g c .station .identity)
-    known-step g c k = rw (step-identity g c) k
+    known-step g c k = rw (step-identity elapsedClock most g c) k
 
     answers-fresh : (o : Origin) (g : Station) → Known i (g .identity) → InStep o g → (cs : List Call) → Always BelowTop elapsedClock most g cs → answers most g cs ≡ freshAnswers most i o g cs
     unfolding answers freshAnswers Always

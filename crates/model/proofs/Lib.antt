@@ -1,7 +1,7 @@
 pub mod FillLaws
 pub mod Seen
 pub mod AgesLaws
-pub mod Timers
+pub mod CallLaws
 pub mod Retimed
 pub mod Paired
 pub mod Premise

@@ -10,7 +10,7 @@ use Rattle.model.specs.Stations.{timed, withoutLate, act, readingOf, ste
 use Rattle.model.specs.Runs.{reply}
 use Rattle.model.specs.Ages.{EachAge}
 use Rattle.model.proofs.AgesLaws.{dropped-call}
-use Rattle.model.proofs.Timers.{step-timer, blank}
+use Rattle.model.proofs.CallLaws.{step-timer, blank}
 use Rattle.model.proofs.Retimed.{timerBy, retimed, resultBy, new-same, Agree, dropped-by, act-by}
 
 -- how the times of clock k are those of clock k′, mapped: Index says which maps there are

@@ -13,7 +13,7 @@ use Rattle.model.specs.Stations.{setup, timed, readingOf, step}
 use Rattle.model.specs.Runs.{run, Always}
 use Rattle.model.specs.Premise.{LessThanTurnApart, latest, ElapsedIsTrue}
 use Rattle.model.specs.Independence.{BelowTop}
-use Rattle.model.proofs.Timers.{step-timer, setup-unset}
+use Rattle.model.proofs.CallLaws.{step-timer, setup-unset}
 
 -- the timer after calls with these readings
 after : Timer → List ℕ → Timer
