@@ -1,10 +1,10 @@
 -- Laws of a test of a list that is true where a test of one of its elements is. Loops look at the elements in order.
 -- Assumes nothing.
 use Prim.Native.Nat.{ℕ, zero, suc, _+_, _≤_, _<_}
-use mathlib.Core.Path.{_≡_, refl, sym, _∙_}
-use mathlib.Core.Bool.{Bool, true, false, _||_}
+use mathlib.Core.Path.{_≡_, refl, sym, ap, _∙_}
+use mathlib.Core.Bool.{Bool, true, false, _||_, or-false, or-assoc}
 use mathlib.Core.List.{List, [], _∷_}
-use lib.ListN.{length, getD, drop, drop-of-length-le}
+use lib.ListN.{length, getD, take, drop, drop-of-length-le}
 use lib.Seq.{drop-cons}
 use native.Mathlib.Numerals.{add-one}
 use native.Mathlib.Omega.{arith}
@@ -39,6 +39,16 @@ module _ {A : Type 0} {test : A → Bool} {l : List A} {i : ℕ} {has : Bool} (S
   pub found-none : length l ≤ i → false ≡ has
   unfolding any
   found-none h = some-none (any test) (λ x xs. test x) refl (λ x xs. refl) l i h ∙ S .left
+
+-- a loop that looks at all of them: the first i and one more
+pub any-next : {A : Type 0} (test : A → Bool) (l : List A) (i : ℕ) (d : A) → i < length l → any test (take (i + 1) l) ≡ (any test (take i l) || test (getD l i d))
+unfolding any
+any-next test l i d h = rw (add-one i) (go l i h)
+  where
+    go : (l : List _) (i : ℕ) → i < length l → any test (take (suc i) l) ≡ (any test (take i l) || test (getD l i d))
+    go [] i h = absurd (omega arith)
+    go (x ∷ l) zero h = or-false (test x)
+    go (x ∷ l) (suc i) h = ap (λ b. test x || b) (go l i (omega arith)) ∙ sym (or-assoc (test x) (any test (take i l)) (test (getD l i d)))
 
 -- what some of the last elements have, some of all have
 module _ {A : Type 0} (some-of : List A → Bool) (one : A → List A → Bool) (cons : (x : A) (xs : List A) → some-of (x ∷ xs) ≡ (one x xs || some-of xs)) where

@@ -5,6 +5,7 @@ use mathlib.Core.Path.{_≡_, refl, sym, ap, _∙_}
 use mathlib.Core.Bool.{Bool, true, false, _&&_}
 use mathlib.Core.List.{List, [], _∷_}
 use native.Mathlib.Numerals.{add-one}
+use native.Mathlib.Omega.{arith}
 use lib.Dec.{eqb}
 use lib.ListN.{length, getD, drop, drop-of-length-le}
 use lib.Seq.{drop-cons}
@@ -38,16 +39,34 @@ same-sym a b = go (same a b) (same b a) refl refl
     go false true p q = sym p ∙ ap (same a) (same-true b a q) ∙ same-refl a
     go false false p q = refl
 
--- two lists from a position on: equal there, not equal there, and at the end
-module _ (xs ys : List ℕ) (i : ℕ) (hx : i < length xs) (hy : i < length ys) where
-  pub same-more : getD xs i 0 ≡ getD ys i 0 → same (drop i xs) (drop i ys) ≡ same (drop (i + 1) xs) (drop (i + 1) ys)
-  unfolding same
-  same-more e = rw (add-one, drop-cons xs i 0 hx, drop-cons ys i 0 hy, eq-eqb (getD xs i 0) (getD ys i 0) e)
+-- the invariant of a loop that compares two lists of n octets: what is left of both compares as the whole does
+pub record Comparing (n : ℕ) (a b : List ℕ) (i : ℕ) : Type 0 where
+  pub most : i ≤ n
+  pub one : length a ≡ n
+  pub other : length b ≡ n
+  pub left : same (drop i a) (drop i b) ≡ same a b
 
-  pub same-stops : (getD xs i 0 ≡ getD ys i 0 → ⊥) → same (drop i xs) (drop i ys) ≡ false
-  unfolding same
-  same-stops e = rw (drop-cons xs i 0 hx, drop-cons ys i 0 hy, ne-eqb (getD xs i 0) (getD ys i 0) e)
+pub compare-start : {n : ℕ} {a b : List ℕ} → length a ≡ n → length b ≡ n → Comparing n a b 0
+compare-start h k = record { most = omega arith; one = h; other = k; left = refl }
 
-pub same-all : (xs ys : List ℕ) (i : ℕ) → length xs ≤ i → length ys ≤ i → same (drop i xs) (drop i ys) ≡ true
-unfolding same
-same-all xs ys i hx hy = rw (drop-of-length-le xs {i = i} hx, drop-of-length-le ys {i = i} hy)
+module _ {n : ℕ} {a b : List ℕ} {i : ℕ} (C : Comparing n a b i) where
+  module _ (h : i < n) where
+    apart : same (drop i a) (drop i b) ≡ (eqb (getD a i 0) (getD b i 0) && same (drop (i + 1) a) (drop (i + 1) b))
+    unfolding same
+    apart = rw (add-one, drop-cons a i 0 (omega (arith, C .one)), drop-cons b i 0 (omega (arith, C .other)))
+
+    pub compare-stops : (getD a i 0 ≡ getD b i 0 → ⊥) → false ≡ same a b
+    compare-stops e = rw (← C .left, apart, ne-eqb (getD a i 0) (getD b i 0) e)
+
+    pub compare-more : getD a i 0 ≡ getD b i 0 → Comparing n a b (i + 1)
+    compare-more e = record {
+      most = omega arith;
+      one = C .one;
+      other = C .other;
+      left = rw (← C .left, apart, eq-eqb (getD a i 0) (getD b i 0) e);
+    }
+
+  pub compare-done : n ≤ i → true ≡ same a b
+  unfolding same
+  compare-done h =
+      rw (← C .left, drop-of-length-le a {i = i} (omega (arith, C .one)), drop-of-length-le b {i = i} (omega (arith, C .other)))
