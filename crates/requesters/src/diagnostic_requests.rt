@@ -40,8 +40,7 @@ struct Diagnostics {
 fn is_late(now: Elapsed, accepted: Elapsed, x: Diagnostic) -> bool
     ensures { λ r. ⌜ r ≡ isLate elapsedSince (now .0) (accepted .0) x ⌝ }
 {
-    now
-        .since(accepted)
+    now.since(accepted)
         .exceeds(Milliseconds::from_seconds(x.timeout))
 }
 
