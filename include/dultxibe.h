@@ -87,10 +87,10 @@ enum {
 
 /* ---- the station */
 
-/* A station: its identity, its log of 64 events, its requesters. What it holds is not for the
- * caller, who copies it as a whole. */
+/* A station: its time, its identity, its log of 64 events, its requesters. What it holds is not for
+ * the caller, who copies it as a whole. */
 struct dultxibe_station {
-    uint64_t opaque[775];
+    uint64_t opaque[813];
 };
 
 /* A transition to be logged. time, of every event: milliseconds 2, second, minute, hour, day, month,
