@@ -72,11 +72,25 @@ impl Elapsed {
         Elapsed(self.0 - earlier.0)
     }
 
+    // The time so long before this one; 0 where that would be before the first call.
+    pub fn before(self, by: Milliseconds) -> Elapsed
+        ensures { λ r. ⌜ r .0 ≡ elapsedSince (self .0) (by .0) ⌝ }
+    {
+        self.since(Elapsed(by.0 as u64))
+    }
+
     // Is this age more than a limit?
     pub fn exceeds(self, limit: Milliseconds) -> bool
         ensures { λ r. ⌜ r ≡ exceeds (self .0) (limit .0) ⌝ }
     {
         (limit.0 as u64) < self.0
+    }
+
+    // Is this time at or after another?
+    pub fn at_least(self, earliest: Elapsed) -> bool
+        ensures { λ r. ⌜ r ≡ atLeast (self .0) (earliest .0) ⌝ }
+    {
+        earliest.0 <= self.0
     }
 }
 
