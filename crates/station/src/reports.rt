@@ -57,10 +57,9 @@ impl Station {
         let g = ticked(self, reading);
         let identity = g.identity;
         let log = g.log;
-        let all = g.requesters;
-        let i = find(all, g.count, source);
-        let found = i < least(g.count, REQUESTER_CAPACITY);
         let mut requesters = g.requesters;
+        let i = find(requesters, g.count, source);
+        let found = i < least(g.count, REQUESTER_CAPACITY);
         let at = least(i, REQUESTER_LAST);
         let r = requesters[at];
         let s = serve_report(r, found, &identity, g.length, log, kind, buf);

@@ -54,16 +54,16 @@ same-length c = search needs
 returns : tie.Need-returns
 unfolding step act readingOf reportCall view
 returns c =
-    let a = c .before .before .before .before .before .before .before .before .before .before .before .before .before .before .before .before .before .args in
-    let s = c .before .before .before .before .before .before .before .before .before .before .before .before .before .before .before .ticked .result in
+    let a = c .before .before .before .before .before .before .before .before .before .before .before .before .before .before .before .before .args in
+    let s = c .before .before .before .before .before .before .before .before .before .before .before .before .before .before .ticked .result in
     let g = view s in
-    let four : length (s .requesters) ≡ requesterCapacity = search (needs, length-mapped, c .before .before .before .before .before .before .before .before .before .before .before .before .before .before .before .ticked .ok) in
-    let i = c .before .before .before .before .before .before .before .before .before .before .before .find .result in
+    let four : length (s .requesters) ≡ requesterCapacity = search (needs, length-mapped, c .before .before .before .before .before .before .before .before .before .before .before .before .before .before .ticked .ok) in
+    let i = c .before .before .before .before .before .before .before .before .before .before .find .result in
     c .outcome-with .ensures _
     ∙ rw (c .before .before .before .before .before .before .before .before .least2 .ensures)
-    (call-served g (s .count) (s .requesters) four refl i (a .source) (giveReport elapsedSince (g .identity) (g .log) (a .kind) (a .buf .now)) (a .buf .now) (c .before .before .before .before .before .before .before .before .before .before .before .find .ensures) (c .before .before .before .before .serve-report .result) _ _ (ap (ltb i) (c .before .before .before .before .before .before .before .before .before .before .least .ensures))
+    (call-served g (s .count) (s .requesters) four refl i (a .source) (giveReport elapsedSince (g .identity) (g .log) (a .kind) (a .buf .now)) (a .buf .now) (c .before .before .before .before .before .before .before .before .before .before .find .ensures) (c .before .before .before .before .serve-report .result) _ _ (ap (ltb i) (c .before .before .before .before .before .before .before .before .before .least .ensures))
     (rw (← c .before .before .before .before .before .before .before .before .least2 .ensures) (c .before .before .before .before .serve-report .ensures)))
-    ∙ ap (reportCall elapsedSince (a .source) (a .kind) (a .buf .now)) (c .before .before .before .before .before .before .before .before .before .before .before .before .before .before .before .ticked .ensures .0)
+    ∙ ap (reportCall elapsedSince (a .source) (a .kind) (a .buf .now)) (c .before .before .before .before .before .before .before .before .before .before .before .before .before .before .ticked .ensures .0)
 
 pub report-spec : {M : Type 1} → statement M
 report-spec =
