@@ -54,12 +54,12 @@ impl Station {
     ) -> Outcome
         ensures { λ r. ⌜ viewOutcome r (now (buf .exit)) ≡ step elapsedClock standard (view self) (Model·report (reading .0) source kind (now (buf .entry))) ⌝ }
     {
+        let all = self.requesters;
+        let i = find(all, self.count, source);
+        let found = i < least(self.count, REQUESTER_CAPACITY);
         let g = ticked(self, reading);
         let identity = g.identity;
         let log = g.log;
-        let all = g.requesters;
-        let i = find(all, g.count, source);
-        let found = i < least(g.count, REQUESTER_CAPACITY);
         let mut requesters = g.requesters;
         let at = least(i, REQUESTER_LAST);
         let r = requesters[at];
