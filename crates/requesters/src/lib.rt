@@ -45,12 +45,12 @@ pub struct Progress {
 // those from first to count; the other places are free.
 #[repr(C)]
 pub struct DiagnosticRequest {
-    pub outstanding: bool,
-    pub dialog: u8,
     pub accepted: Elapsed,
     pub first: usize,
     pub count: usize,
     pub elements: [Diagnostic; ELEMENT_CAPACITY],
+    pub outstanding: bool,
+    pub dialog: u8,
 }
 
 // A requester, with at most one request of each kind.

@@ -28,13 +28,6 @@ impl Milliseconds {
         Milliseconds(std::num::wrapping_sub_u32(self.0, earlier.0))
     }
 
-    // Is this age more than a limit?
-    pub fn exceeds(self, limit: Milliseconds) -> bool
-        ensures { λ r. ⌜ r ≡ exceeds (self .0) (limit .0) ⌝ }
-    {
-        limit.0 < self.0
-    }
-
     pub fn from_seconds(n: u16) -> Milliseconds
         ensures { λ r. ⌜ r .0 ≡ n * 1000 ⌝ }
     {
