@@ -44,7 +44,8 @@ fn serve_report(
 }
 
 impl Station {
-    // A report for a requester, into a lent buffer. One way out, as for a frame.
+    // A report for a requester, into a lent buffer. One way out, as for a frame. The tick keeps
+    // addresses; behind it, the search would copy each requester by itself.
     pub fn report(
         self,
         reading: Milliseconds,
