@@ -139,8 +139,10 @@ struct dultxibe_outcome {
 struct dultxibe_outcome dultxibe_setup(const uint8_t *identity, size_t length,
                                        const uint8_t (*requesters)[6], size_t count);
 
-/* A bare clock reading: drops each unanswered diagnostic that is late, as every call below does
- * first. Accepted. */
+/* A bare clock reading: advances the station's time by the reading's difference from the call before,
+ * modulo 2^32, then drops each unanswered diagnostic that is late, as every call below does first. The
+ * first call after setup is at time zero. Calls lie less than 2^32 ms (49.7 days) apart, and readings
+ * never go back. Accepted. */
 struct dultxibe_outcome dultxibe_tick(struct dultxibe_station station, uint32_t reading);
 
 /* Logs a transition that ends at the reading. Accepted; or refused by BAD_TIME. */

@@ -4,7 +4,7 @@
 pub const TURN: u128 = 4_294_967_296;
 
 /// "elapsed milliseconds in 64 bits": the most that they hold. No list of calls that can be run gets there: it
-/// takes 2^32 of them, each a turn less one after the one before.
+/// takes more than 2^32 of them, each a turn less one after the one before. So no answer shows what happens there.
 pub const TOP: u128 = 18_446_744_073_709_551_615;
 
 /// "The age between two readings is their difference modulo that number, the later call's or the

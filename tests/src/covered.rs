@@ -93,11 +93,11 @@ const FREQUENT: [&str; 5] = [
 /// What a call's reading is beside the one of the call before it, and the time of calls that keep it.
 const CALLS: [&str; 11] = [
     "first, at a reading other than 0",
-    "at the reading before it",
-    "half a turn or more behind it",
-    "a turn less one behind it: back by one",
-    "refused, half a turn or more behind it",
-    "refused, a turn less one behind it",
+    "at the same reading",
+    "half a turn or more later",
+    "back by one, a turn less one later",
+    "refused, half a turn or more later",
+    "refused, a turn less one later",
     "in the fourth turn since setup",
     "move with a log, after a turn",
     "network change, after a turn",
@@ -224,11 +224,11 @@ impl Covered {
         match before.map(|before| age(reading, before)) {
             None if reading != 0 => self.saw("call", "first, at a reading other than 0"),
             None => {}
-            Some(0) => self.saw("call", "at the reading before it"),
-            Some(0xFFFF_FFFF) if refused => self.saw("call", "refused, a turn less one behind it"),
-            Some(0xFFFF_FFFF) => self.saw("call", "a turn less one behind it: back by one"),
-            Some(0x8000_0000..) if refused => self.saw("call", "refused, half a turn or more behind it"),
-            Some(0x8000_0000..) => self.saw("call", "half a turn or more behind it"),
+            Some(0) => self.saw("call", "at the same reading"),
+            Some(0xFFFF_FFFF) if refused => self.saw("call", "refused, a turn less one later"),
+            Some(0xFFFF_FFFF) => self.saw("call", "back by one, a turn less one later"),
+            Some(0x8000_0000..) if refused => self.saw("call", "refused, half a turn or more later"),
+            Some(0x8000_0000..) => self.saw("call", "half a turn or more later"),
             Some(_) => {}
         }
         if let Record::Log { logging, .. } = record {

@@ -1,5 +1,6 @@
 //! Made-up traces.
 
+use crate::clock::TURN;
 use crate::make_events::{log_record, rsna_logging, transition};
 use crate::make_identity::{console_list, identity, STATION};
 use crate::make_reports::report_frame;
@@ -23,9 +24,6 @@ const BUFFERS: [usize; 32] = [
 /// change, setup, request writer, report reader, the calls around a timeout, two transitions and a diagnostic
 /// over a turn.
 type Weights = [usize; 13];
-
-/// A turn of the counter, in milliseconds.
-const TURN: u64 = 4_294_967_296;
 
 /// What a trace is like as a whole.
 struct Plan {
@@ -317,7 +315,7 @@ impl Maker<'_> {
     }
 
     /// Lets so much time pass in so many steps, each below a turn, with a call behind each but the last.
-    fn pass(&mut self, time: u64, steps: u64) {
+    fn pass(&mut self, time: u128, steps: u128) {
         let each = time / steps;
         for _ in 1..steps {
             self.reading = self.reading.wrapping_add(each as u32);
