@@ -1,7 +1,9 @@
-//! Links the archive of the proved code, which `bench/run` has built.
+//! Links the archives of the proved code, which `bench/run` has built.
 fn main() {
-    let archive = concat!(env!("CARGO_MANIFEST_DIR"), "/../target/staticlib");
-    println!("cargo:rustc-link-search=native={archive}");
-    println!("cargo:rustc-link-lib=static=firmware");
-    println!("cargo:rerun-if-changed={archive}/libfirmware.a");
+    let folder = concat!(env!("CARGO_MANIFEST_DIR"), "/../target/staticlib");
+    println!("cargo:rustc-link-search=native={folder}");
+    for name in ["firmware", "conversion"] {
+        println!("cargo:rustc-link-lib=static={name}");
+        println!("cargo:rerun-if-changed={folder}/lib{name}.a");
+    }
 }

@@ -1,4 +1,4 @@
-//! The proved code, as include/dultxibe.h declares it.
+//! The proved code, as include/dultxibe.h declares it, and the conversion to TUs by itself (crates/conversion).
 
 use std::mem::{offset_of, size_of};
 
@@ -202,4 +202,5 @@ extern "C" {
     pub fn dultxibe_read_transition(octets: *const u8, length: usize) -> TransitionReport;
     pub fn dultxibe_read_rsna(octets: *const u8, length: usize) -> RsnaReport;
     pub fn dultxibe_read_peer_link(octets: *const u8, length: usize) -> PeerLinkReport;
+    pub fn tus_of(age: u32) -> u16;
 }

@@ -44,6 +44,7 @@ trait Side: Copy {
     fn change_network(&mut self, reading: u32, list: &[[u8; 6]]) -> Answer;
     /// Validates a report frame, then reads its elements: the count, and a sum over their fields.
     fn read(octets: &[u8]) -> (usize, u64);
+    fn time_units(age: u32) -> u16;
 }
 
 /// The proved side: what the last call gave, with the station that the next call takes by value.
@@ -149,6 +150,10 @@ impl Side for firmware::Outcome {
             at = step.next;
         }
         (report.count, sum)
+    }
+
+    fn time_units(age: u32) -> u16 {
+        unsafe { firmware::tus_of(age) }
     }
 }
 
@@ -261,6 +266,11 @@ impl Side for twin::Station {
         }
         (report.count, sum)
     }
+
+    #[inline(never)]
+    fn time_units(age: u32) -> u16 {
+        twin::time_units(age)
+    }
 }
 
 fn transition(n: u32) -> twin::Transition {
@@ -359,6 +369,8 @@ enum Call {
     Roam,
     ChangeNetwork,
     Read,
+    /// Conversions of ages to TUs.
+    Convert(Vec<u32>),
 }
 
 struct Case {
@@ -376,6 +388,8 @@ fn cases() -> Vec<Case> {
     let all_rsna = || event_frame(&[element_of(1, 5, 255, &[])]);
     let chosen_rsna = || event_frame(&[element_of(1, 5, 8, &RSNA_CONDITIONS)]);
     let eight = event_frame(&(1..=8).map(|token| element(token, 4, &CONDITIONS)).collect::<Vec<_>>());
+    let below = (0..64).map(|n| n * 1_048).collect();
+    let above = (0..64).map(|n| 67_109 + n * 67_000_000).collect();
     let diagnostics = || vec![10, 2, 9, 80, 4, 1, 1, 200, 0, 80, 4, 2, 7, 200, 0];
     vec![
         case("tick, nothing outstanding", Log::Transitions, vec![], Call::Tick),
@@ -402,6 +416,8 @@ fn cases() -> Vec<Case> {
         case("network change", Log::Transitions, vec![all()], Call::ChangeNetwork),
         case("read a report of 64 events", Log::Transitions, vec![all()], Call::Read),
         case("read a report of a mixed log of 64", Log::Mixed, vec![every_kind()], Call::Read),
+        case("convert 64 ages below the cap", Log::Transitions, vec![], Call::Convert(below)),
+        case("convert 64 ages above the cap", Log::Transitions, vec![], Call::Convert(above)),
     ]
 }
 
@@ -474,7 +490,7 @@ impl<S: Side> Runner<S> {
                 Call::Report(kind) => given.answers[i] = station.report(black_box(70_000), *kind, &mut given.buffers[i]),
                 Call::Roam => given.answers[i] = station.roam(black_box(70_000), black_box(&CONSOLES)),
                 Call::ChangeNetwork => given.answers[i] = station.change_network(black_box(70_000), black_box(&CONSOLES)),
-                Call::Read => given.reads[i] = S::read(black_box(&self.frame)),
+                Call::Read | Call::Convert(_) => given.reads[i] = read::<S>(&case.call, &self.frame),
             }
         }
     }
@@ -502,6 +518,15 @@ fn probe<S: Side>(station: &mut S) -> Vec<(Answer, Vec<u8>)> {
         given.push((answer, buffer.clone()));
     }
     given
+}
+
+/// What a call without a station gives: of a frame its reading, of ages their count and the sum of their TUs.
+#[inline(never)]
+fn read<S: Side>(call: &Call, frame: &[u8]) -> (usize, u64) {
+    match call {
+        Call::Convert(ages) => (ages.len(), black_box(ages).iter().map(|&age| S::time_units(age) as u64).sum()),
+        _ => S::read(black_box(frame)),
+    }
 }
 
 fn median(times: &mut [f64]) -> f64 {

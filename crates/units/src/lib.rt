@@ -95,15 +95,17 @@ impl TimeUnits {
 
     const MOST: u64 = 65535;
 
-    // The one conversion: rounded down, and MOST where it is more.
+    // How many numbers there are up to MOST: divided by it, these give 0 and all others more.
+    const SPAN: u64 = 65536;
+
+    // The one conversion: rounded down, and MOST where it is more. `over` is 1 there and 0 elsewhere, so
+    // that every age takes the same path (document 02, (b)).
     pub fn from_milliseconds(age: Milliseconds) -> TimeUnits
         ensures { λ r. ⌜ r .0 ≡ tusOf (age .0) ⌝ }
     {
         let tus = (age.0 as u64) * TimeUnits::NUMERATOR / TimeUnits::DENOMINATOR;
-        if TimeUnits::MOST < tus {
-            return TimeUnits(TimeUnits::MOST as u16);
-        }
-        TimeUnits(tus as u16)
+        let over = (tus / TimeUnits::SPAN + TimeUnits::MOST) / TimeUnits::SPAN;
+        TimeUnits((tus % TimeUnits::SPAN * (1 - over) + TimeUnits::MOST * over) as u16)
     }
 
     // Is this time at or above a threshold?
