@@ -87,10 +87,10 @@ enum {
 
 /* ---- the station */
 
-/* A station: its identity, its log of 64 events, its requesters. What it holds is not for the
- * caller, who copies it as a whole. */
+/* A station: its time, its identity, its log of 64 events, its requesters. What it holds is not for
+ * the caller, who copies it as a whole. */
 struct dultxibe_station {
-    uint64_t opaque[775];
+    uint64_t opaque[813];
 };
 
 /* A transition to be logged. time, of every event: milliseconds 2, second, minute, hour, day, month,
@@ -139,8 +139,10 @@ struct dultxibe_outcome {
 struct dultxibe_outcome dultxibe_setup(const uint8_t *identity, size_t length,
                                        const uint8_t (*requesters)[6], size_t count);
 
-/* A bare clock reading: drops each unanswered diagnostic that is late, as every call below does
- * first. Accepted. */
+/* A bare clock reading: advances the station's time by the reading's difference from the call before,
+ * modulo 2^32, then drops each unanswered diagnostic that is late, as every call below does first. The
+ * first call after setup is at time zero. Calls lie less than 2^32 ms (49.7 days) apart, and readings
+ * never go back. Accepted. */
 struct dultxibe_outcome dultxibe_tick(struct dultxibe_station station, uint32_t reading);
 
 /* Logs a transition that ends at the reading. Accepted; or refused by BAD_TIME. */

@@ -14,7 +14,7 @@ pub struct Reply {
 #[derive(Clone, Copy)]
 #[repr(C)]
 pub struct Station {
-    opaque: [u64; 775],
+    opaque: [u64; 813],
 }
 
 #[derive(Clone, Copy)]
@@ -126,8 +126,8 @@ pub struct PeerLinkReport {
     pub status: u8,
 }
 
-const _: () = assert!(size_of::<Reply>() == 24 && size_of::<Station>() == 6200);
-const _: () = assert!(size_of::<Outcome>() == 6224 && size_of::<Transition>() == 32);
+const _: () = assert!(size_of::<Reply>() == 24 && size_of::<Station>() == 6504);
+const _: () = assert!(size_of::<Outcome>() == 6528 && size_of::<Transition>() == 32);
 const _: () = assert!(size_of::<RsnaEvent>() == 28 && size_of::<PeerLink>() == 22);
 const _: () = assert!(size_of::<ReportFrame>() == 24 && size_of::<Step>() == 56);
 const _: () = assert!(offset_of!(Step, element) == 32 && size_of::<Element>() == 24);

@@ -17,6 +17,7 @@ pub enum Input {
 }
 
 /// A case of the paper.
+#[derive(Clone)]
 pub struct Case {
     pub title: &'static str,
     pub input: Input,

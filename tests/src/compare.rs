@@ -1,5 +1,6 @@
 //! The programs' output against the separately written reader and gate.
 
+use crate::clock::Rule;
 use crate::listing::{list_report_input, list_request};
 use crate::program::Programs;
 use crate::shrink::{shrink_list, shrink_trace};
@@ -68,7 +69,7 @@ pub fn compare_trace(programs: &Programs, tally: &Tally, records: &[Vec<u8>]) ->
     let input = records.concat();
     let printed = programs.run("replay", &input);
     tally.count_printed(&printed);
-    let expected = run_trace(&input);
+    let expected = run_trace(Rule::Elapsed, &input);
     if printed == expected.printed.into_bytes() {
         tally.count_covered(&expected.covered);
         return Ok(printed);

@@ -1,6 +1,5 @@
 //! Conditions: what the subelements of an event request ask of an event, type by type.
 
-use crate::clock::age;
 use crate::event_body::EventBody;
 use crate::event_request::Event;
 use crate::octets::{address_of, u16_of, Address};
@@ -100,12 +99,15 @@ fn match_value_admits(bits: u8, result: u16) -> bool {
 /// "the events up to and including this one whose age to it is at most interval times 60,000"; "frequent
 /// transition counts transitions alone".
 fn transitions_near(event: &Event, up_to: &[Event], interval: u16) -> usize {
-    near(event, up_to, interval).filter(|other| matches!(other.body, EventBody::Transition(_))).count()
+    transitions(up_to).filter(|other| is_near(event.stamp.since(other.stamp), interval)).count()
 }
 
-/// The same events, of every kind.
-pub fn near<'a>(event: &Event, up_to: &'a [Event], interval: u16) -> impl Iterator<Item = &'a Event> {
-    let stamp = event.stamp;
-    let longest = u64::from(interval) * 60_000;
-    up_to.iter().filter(move |other| age(stamp, other.stamp) <= longest)
+/// The transitions in a log.
+pub fn transitions(log: &[Event]) -> impl Iterator<Item = &Event> {
+    log.iter().filter(|event| matches!(event.body, EventBody::Transition(_)))
+}
+
+/// "at most interval times 60,000".
+pub fn is_near(age: u128, interval: u16) -> bool {
+    age <= u128::from(interval) * 60_000
 }

@@ -1,8 +1,10 @@
-//! What a trace had of request (a) of document 02, counted beside the second gate's run of it: a case that no
-//! trace had could not have failed.
+//! What a trace had of requests (a) and (c) of document 02, counted beside the second gate's run of it: a case
+//! that no trace had could not have failed.
 
-use crate::condition::{near, Condition};
+use crate::clock::{age, TURN};
+use crate::condition::{is_near, transitions, Condition};
 use crate::event_body::{is_reported, EventBody};
+use crate::event_request::Event;
 use crate::octets::{part_at, Kind, HEADER};
 use crate::report::{read_report, ReportElement, ReportFrame, Rest};
 use crate::request::{count_subelements, read_request, RequestElement, Wanted};
@@ -60,8 +62,9 @@ const CONDITIONS: [&str; 15] = [
 const OF_EVERY_CONDITION: [&str; 2] = ["let through", "held back by it alone"];
 
 /// What is not said of every kind or condition.
-const OTHERS: [(&str, &[&str]); 9] = [
-    ("frequent", &["other kinds counted too would change it"]),
+const OTHERS: [(&str, &[&str]); 10] = [
+    ("frequent", &FREQUENT),
+    ("call", &CALLS),
     (
         "RSN element",
         &["absent", "of 22 octets", "of another length (17)", "of another length, wrong time (14)"],
@@ -76,6 +79,30 @@ const OTHERS: [(&str, &[&str]); 9] = [
         &["body that is no subelement list", "answered Incapable", "written with none", "kept unread"],
     ),
     ("log, frame, trace", &WHOLES),
+];
+
+/// What a frequent condition counts: transitions alone, and by elapsed time.
+const FREQUENT: [&str; 5] = [
+    "other kinds counted too would change it",
+    "ages modulo a turn would change it",
+    "pair a turn apart",
+    "pair 65,535 minutes apart, that interval",
+    "pair 65,535 minutes and 1 ms apart, that interval",
+];
+
+/// What a call's reading is beside the one of the call before it, and the time of calls that keep it.
+const CALLS: [&str; 11] = [
+    "first, at a reading other than 0",
+    "at the same reading",
+    "half a turn or more later",
+    "back by one, a turn less one later",
+    "refused, half a turn or more later",
+    "refused, a turn less one later",
+    "in the fourth turn since setup",
+    "move with a log, after a turn",
+    "network change, after a turn",
+    "on a gate with no console, after a turn",
+    "transition of more than half a turn",
 ];
 
 /// Logs, frames and traces as a whole.
@@ -160,12 +187,70 @@ impl Covered {
             }
             for one in asked {
                 if let Condition::Frequent { threshold, interval } = one {
-                    let every_kind = near(event, up_to, *interval).count() > usize::from(*threshold);
-                    if every_kind != one.admits(event, up_to) {
-                        self.saw("frequent", "other kinds counted too would change it");
-                    }
+                    let otherwise =
+                        |near: usize| (near > usize::from(*threshold)) != one.admits(event, up_to);
+                    self.frequent(event, up_to, *interval, otherwise);
                 }
             }
+        }
+    }
+
+    /// A frequent condition that is asked of an event; `otherwise` says whether another count would change it.
+    fn frequent(&mut self, event: &Event, up_to: &[Event], interval: u16, otherwise: impl Fn(usize) -> bool) {
+        let age_of = |other: &Event| event.stamp.since(other.stamp);
+        if otherwise(up_to.iter().filter(|other| is_near(age_of(other), interval)).count()) {
+            self.saw("frequent", "other kinds counted too would change it");
+        }
+        if otherwise(transitions(up_to).filter(|other| is_near(age_of(other) % TURN, interval)).count()) {
+            self.saw("frequent", "ages modulo a turn would change it");
+        }
+        for age in transitions(up_to).map(age_of) {
+            match (age, interval) {
+                (TURN, _) => self.saw("frequent", "pair a turn apart"),
+                (3_932_100_000, 65_535) => self.saw("frequent", "pair 65,535 minutes apart, that interval"),
+                (3_932_100_001, 65_535) => {
+                    self.saw("frequent", "pair 65,535 minutes and 1 ms apart, that interval");
+                }
+                _ => {}
+            }
+        }
+    }
+
+    /// A call's reading beside the one of the call `before` it, none where it is the first since setup, and the
+    /// gate after it.
+    pub fn timed(&mut self, before: Option<u32>, station: &Station, record: &Record, printed: &str) {
+        let Some(reading) = record.reading() else { return };
+        let refused = printed.starts_with("refused");
+        match before.map(|before| age(reading, before)) {
+            None if reading != 0 => self.saw("call", "first, at a reading other than 0"),
+            None => {}
+            Some(0) => self.saw("call", "at the same reading"),
+            Some(0xFFFF_FFFF) if refused => self.saw("call", "refused, a turn less one later"),
+            Some(0xFFFF_FFFF) => self.saw("call", "back by one, a turn less one later"),
+            Some(0x8000_0000..) if refused => self.saw("call", "refused, half a turn or more later"),
+            Some(0x8000_0000..) => self.saw("call", "half a turn or more later"),
+            Some(_) => {}
+        }
+        if let Record::Log { logging, .. } = record {
+            if !refused && age(reading, logging.departure) > 0x8000_0000 {
+                self.saw("call", "transition of more than half a turn");
+            }
+        }
+        if station.elapsed() < TURN {
+            return;
+        }
+        if station.elapsed() >= 3 * TURN {
+            self.saw("call", "in the fourth turn since setup");
+        }
+        if !station.has_requesters() {
+            self.saw("call", "on a gate with no console, after a turn");
+        }
+        match record {
+            Record::Roam { .. } if !refused && !station.log().is_empty() => {
+                self.saw("call", "move with a log, after a turn");
+            }
+            Record::Change { .. } if !refused => self.saw("call", "network change, after a turn"),
+            _ => {}
         }
     }
 

@@ -2,7 +2,9 @@
 //!
 //! Each answer to a sender in the whole run is the answer of a newly set up gate: the identity given to
 //! setup, the list of the last accepted network change or setup, the later calls only, and a clock record
-//! at the same reading in place of each frame or report call of another sender.
+//! at the same reading in place of each frame or report call of another sender. The new gate has no reading,
+//! and its first later call is at zero; "A network change keeps the time running", so the times of the two
+//! differ, and the answers may not.
 
 use crate::answers::answers;
 use crate::compare::{records_text, Difference};
@@ -17,12 +19,21 @@ struct Stretch<'a> {
     identity: Vec<u8>,
     list: Vec<Address>,
     calls: Vec<(Record, &'a str)>,
+    after_change: bool,
 }
 
 /// A call in the run of a newly set up gate, and the answer it had in the whole run where it is compared.
 struct Alone<'a> {
     record: Record,
     in_whole_run: Option<&'a str>,
+    after_change: bool,
+}
+
+/// Answers compared, and those among them behind an accepted network change.
+#[derive(Clone, Copy, Default)]
+pub struct Compared {
+    pub answers: usize,
+    pub after_change: usize,
 }
 
 /// Compares every answer to every sender; gives the number of answers compared.
@@ -30,7 +41,7 @@ pub fn check_independence(
     programs: &Programs,
     records: &[Vec<u8>],
     printed: &[u8],
-) -> Result<usize, Difference> {
+) -> Result<Compared, Difference> {
     let compared = compare_alone(programs, records, printed);
     if let Ok(number) = compared {
         return Ok(number);
@@ -57,9 +68,9 @@ fn compare_alone(
     programs: &Programs,
     records: &[Vec<u8>],
     printed: &[u8],
-) -> Result<usize, (String, String)> {
+) -> Result<Compared, (String, String)> {
     let printed = String::from_utf8_lossy(printed);
-    let mut compared = 0;
+    let mut compared = Compared::default();
     let mut waiting: Vec<Alone> = Vec::new();
     let mut size = 0;
     for stretch in stretches(records, &printed) {
@@ -67,7 +78,7 @@ fn compare_alone(
             let run = alone(&stretch, &sender);
             let octets: usize = run.iter().map(|call| write_record(&call.record).len()).sum();
             if size + octets > LONGEST_TRACE {
-                compared += run_alone(programs, &waiting)?;
+                run_alone(programs, &waiting, &mut compared)?;
                 waiting.clear();
                 size = 0;
             }
@@ -75,40 +86,40 @@ fn compare_alone(
             waiting.extend(run);
         }
     }
-    Ok(compared + run_alone(programs, &waiting)?)
+    run_alone(programs, &waiting, &mut compared)?;
+    Ok(compared)
 }
 
 /// Runs the new gates, one behind the other: each starts with its own setup.
-fn run_alone(programs: &Programs, calls: &[Alone]) -> Result<usize, (String, String)> {
+fn run_alone(programs: &Programs, calls: &[Alone], compared: &mut Compared) -> Result<(), (String, String)> {
     let records: Vec<Vec<u8>> = calls.iter().map(|call| write_record(&call.record)).collect();
     let printed = programs.run("replay", &records.concat());
     let printed = String::from_utf8_lossy(&printed);
     let answers = answers(&records, &printed);
-    let mut compared = 0;
     for (index, call) in calls.iter().enumerate() {
         let Some(in_whole_run) = call.in_whole_run else { continue };
         let new_gate = answers.get(index).map_or("", |(_, answer)| answer);
         if in_whole_run != new_gate {
             return Err((in_whole_run.to_string(), new_gate.to_string()));
         }
-        compared += 1;
+        compared.answers += 1;
+        compared.after_change += usize::from(call.after_change);
     }
-    Ok(compared)
+    Ok(())
 }
 
 /// "The list starts from what setup returned, accepted or refused." An accepted network change starts a
 /// stretch of its own; before any setup the gate is that of an empty identity and an empty list.
 fn stretches<'a>(records: &[Vec<u8>], printed: &'a str) -> Vec<Stretch<'a>> {
-    let mut stretches = vec![Stretch { identity: Vec::new(), list: Vec::new(), calls: Vec::new() }];
+    let stretch = |identity, list, after_change| Stretch { identity, list, calls: Vec::new(), after_change };
+    let mut stretches = vec![stretch(Vec::new(), Vec::new(), false)];
     for (record, answer) in answers(records, printed) {
         let current = stretches.last_mut().expect("there is a first stretch");
         match record {
-            Record::Setup { identity, list } => {
-                stretches.push(Stretch { identity, list, calls: Vec::new() });
-            }
+            Record::Setup { identity, list } => stretches.push(stretch(identity, list, false)),
             Record::Change { list, .. } if answer == "accepted\n" => {
                 let identity = current.identity.clone();
-                stretches.push(Stretch { identity, list, calls: Vec::new() });
+                stretches.push(stretch(identity, list, true));
             }
             Record::Write { .. } | Record::Read { .. } => {}
             call => current.calls.push((call, answer)),
@@ -135,12 +146,13 @@ fn senders(stretch: &Stretch) -> BTreeSet<Address> {
 /// refused ones too."
 fn alone<'a>(stretch: &Stretch<'a>, sender: &Address) -> Vec<Alone<'a>> {
     let setup = Record::Setup { identity: stretch.identity.clone(), list: stretch.list.clone() };
-    let mut calls = vec![Alone { record: setup, in_whole_run: None }];
+    let call = |record, in_whole_run| Alone { record, in_whole_run, after_change: stretch.after_change };
+    let mut calls = vec![call(setup, None)];
     for (record, answer) in &stretch.calls {
         calls.push(match sender_of(record) {
-            Some((own, _)) if own == *sender => Alone { record: record.clone(), in_whole_run: Some(answer) },
-            Some((_, reading)) => Alone { record: Record::Clock { reading }, in_whole_run: None },
-            None => Alone { record: record.clone(), in_whole_run: None },
+            Some((own, _)) if own == *sender => call(record.clone(), Some(*answer)),
+            Some((_, reading)) => call(Record::Clock { reading }, None),
+            None => call(record.clone(), None),
         });
     }
     calls

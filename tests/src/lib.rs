@@ -1,5 +1,5 @@
-//! A separately written reader and gate for document 01 and request (a) of document 02, and the differential
-//! tests made with it.
+//! A separately written reader and gate for document 01 and requests (a) and (c) of document 02, and the
+//! differential tests made with it.
 
 // The reader and the gate.
 pub mod clock;
@@ -20,6 +20,7 @@ pub mod transition;
 
 // Made-up input.
 pub mod cases;
+pub mod clock_cases;
 pub mod damage;
 pub mod kind_cases;
 pub mod make_events;
@@ -30,6 +31,7 @@ pub mod make_traces;
 pub mod random;
 
 // The runner.
+pub mod agreement;
 pub mod answers;
 pub mod compare;
 pub mod covered;

@@ -1,5 +1,6 @@
 //! Made-up traces.
 
+use crate::clock::TURN;
 use crate::make_events::{log_record, rsna_logging, transition};
 use crate::make_identity::{console_list, identity, STATION};
 use crate::make_reports::report_frame;
@@ -20,8 +21,9 @@ const BUFFERS: [usize; 32] = [
 ];
 
 /// How often each call comes: clock, logging, event frame, diagnostic frame, report call, move, network
-/// change, setup, request writer, report reader, and the calls around a timeout.
-type Weights = [usize; 11];
+/// change, setup, request writer, report reader, the calls around a timeout, two transitions and a diagnostic
+/// over a turn.
+type Weights = [usize; 13];
 
 /// What a trace is like as a whole.
 struct Plan {
@@ -34,6 +36,8 @@ struct Plan {
     short_buffers: bool,
     /// Percent of event frames that fill a report frame.
     crowded: usize,
+    /// Whether calls lie days apart, and up to a turn less one.
+    far: bool,
 }
 
 /// Everyday calls; full logs; little but diagnostics; logs that overtake their reports; many faults.
@@ -41,31 +45,32 @@ fn plan(random: &mut Random) -> Plan {
     let taste = Taste { faulty: 12, cancels: 8 };
     let small_steps = [30, 40, 15, 4, 1, 2, 4];
     let everyday = Plan {
-        weights: [4, 22, 16, 10, 32, 2, 1, 1, 3, 4, 2],
+        weights: [4, 22, 16, 10, 32, 2, 1, 1, 3, 4, 2, 1, 1],
         taste,
         loggings_first: random.between(0, 20),
         kinds: random.pick(&[[1, 1, 1], [1, 1, 1], [6, 1, 1], [1, 6, 1], [1, 1, 6], [1, 0, 0]]),
         steps: small_steps,
         short_buffers: random.percent(50),
         crowded: 5,
+        far: random.percent(65),
     };
     match random.between(0, 6) {
         0 => Plan { loggings_first: random.between(60, 140), ..everyday },
         5 => Plan {
-            weights: [1, 5, 30, 2, 50, 1, 0, 0, 0, 0, 0],
+            weights: [1, 5, 30, 2, 50, 1, 0, 0, 0, 0, 0, 1, 0],
             loggings_first: random.between(64, 70),
             short_buffers: false,
             crowded: 50,
             ..everyday
         },
         1 => Plan {
-            weights: [10, 2, 2, 30, 30, 1, 1, 1, 0, 0, 10],
+            weights: [10, 2, 2, 30, 30, 1, 1, 1, 0, 0, 10, 0, 6],
             taste: Taste { faulty: 4, ..taste },
             steps: [30, 10, 45, 2, 1, 6, 2],
             ..everyday
         },
         2 => Plan {
-            weights: [0, 60, 8, 2, 25, 1, 0, 0, 0, 0, 0],
+            weights: [0, 60, 8, 2, 25, 1, 0, 0, 0, 0, 0, 2, 0],
             taste: Taste { faulty: 0, ..taste },
             loggings_first: 64,
             short_buffers: true,
@@ -73,7 +78,7 @@ fn plan(random: &mut Random) -> Plan {
         },
         3 => Plan { taste: Taste { faulty: 60, ..taste }, steps: [10, 10, 10, 10, 10, 10, 10], ..everyday },
         4 => Plan {
-            weights: [2, 30, 14, 6, 30, 8, 4, 3, 1, 1, 2],
+            weights: [2, 30, 14, 6, 30, 8, 4, 3, 1, 1, 2, 6, 3],
             steps: [20, 30, 10, 20, 10, 5, 5],
             ..everyday
         },
@@ -128,11 +133,12 @@ impl Maker<'_> {
         self.records.push(octets);
     }
 
-    /// The next call's reading: the same, little later, seconds, days, near the rollover, back by one,
-    /// minutes.
+    /// The next call's reading: the same, little later, seconds, days, near the rollover, back by one or a
+    /// little more, minutes. Where calls are not to lie far apart, a step of days and more is none.
     fn step(&mut self) -> u32 {
         let random = &mut *self.random;
         let forward = match random.weighted(&self.plan.steps) {
+            3..=5 if !self.plan.far => 0,
             0 => 0,
             1 => random.between(1, 40) as u32,
             2 => random.pick(&[500, 999, 1000, 1000, 1001, 2000, 2001, 3000, 5001]),
@@ -141,7 +147,7 @@ impl Maker<'_> {
                 let before = random.between(0, 2000) as u32;
                 random.pick(&[u32::MAX - before, u32::MAX, 0, 1]).wrapping_sub(self.reading)
             }
-            5 => u32::MAX,
+            5 => random.pick(&[u32::MAX, u32::MAX, u32::MAX - 1, u32::MAX - 999, u32::MAX - 59_999]),
             _ => random.pick(&[59_999, 60_000, 60_000, 60_001, 120_000, 300_000]),
         };
         self.reading = self.reading.wrapping_add(forward);
@@ -180,7 +186,10 @@ impl Maker<'_> {
                 let (destination, octets) = report_frame(self.random);
                 self.push(Record::Read { destination, octets });
             }
-            _ => self.around_a_timeout(),
+            10 => self.around_a_timeout(),
+            _ if !self.plan.far => self.report(),
+            11 => self.transitions_over_a_turn(),
+            _ => self.diagnostic_over_a_turn(),
         }
     }
 
@@ -254,16 +263,93 @@ impl Maker<'_> {
     /// A diagnostic request, a call of any kind at its timeout or one later, at times a step back by one,
     /// and a report call: what was dropped stays dropped, whatever the call between was answered.
     fn around_a_timeout(&mut self) {
-        if self.random.percent(25) {
+        if self.plan.far && self.random.percent(25) {
             self.reading = self.random.pick(&[0, 1, u32::MAX, u32::MAX - 999, u32::MAX - 1000]);
         }
         let (accepted, source) = (self.step(), self.sender());
+        let timeout = self.random.between(0, 3) as u16;
+        let past = self.random.pick(&[0, 1, 1, 1]);
+        let back = u32::from(self.plan.far && self.random.percent(70));
+        self.diagnostic(accepted, source, timeout);
+        self.reading = accepted.wrapping_add(u32::from(timeout) * 1000 + past);
+        self.bystander(source);
+        self.reading = self.reading.wrapping_sub(back);
+        self.diagnostic_report(source);
+    }
+
+    /// Two transitions whose true age is a turn or several, or the longest interval, and up to a minute or so
+    /// more, with calls of any kind between them; then a frequent condition is asked of them.
+    fn transitions_over_a_turn(&mut self) {
+        let reading = self.step();
+        let record = log_record(self.random, 0, reading, 16, 0);
+        self.push(record);
         let random = &mut *self.random;
-        let timeout = random.between(0, 3) as u8;
-        let octets = vec![10, 2, random.octet().max(1), 80, 4, 5, random.pick(&[1, 2]), timeout, 0];
+        let apart = random.pick(&[TURN, TURN, 2 * TURN, 3 * TURN, 3_932_100_000]);
+        let more = random.pick(&[0, 1, 59_999, 60_000, 60_001, 120_000]);
+        let calls = apart / TURN + random.pick(&[1, 1, 2]);
+        self.pass(apart + more, calls);
+        let reading = self.reading;
+        let source = self.sender();
+        let random = &mut *self.random;
+        let record = log_record(random, 0, reading, 17, 0);
+        let interval: u16 = random.pick(&[0, 1, 1, 1, 2, 65_535, 65_535]);
+        let [low, high] = interval.to_le_bytes();
+        let threshold = random.pick(&[0, 1, 1, 1, 2]);
+        let octets = vec![10, 0, random.octet().max(1), 78, 8, 5, 0, 255, 4, 3, threshold, low, high];
+        self.push(record);
+        self.push(Record::Frame { reading, destination: STATION, source, octets });
+        self.push(Record::Report { reading, console: source, kind: Kind::Event, buffer: 2304, fill: 0xEE });
+    }
+
+    /// A diagnostic request, a call at which it still waits, and a report call at which its age is a turn or a
+    /// little more, so that the counter alone would show it in time.
+    fn diagnostic_over_a_turn(&mut self) {
+        let (accepted, source) = (self.step(), self.sender());
+        let timeout = self.random.pick(&[1u16, 2, 3, 60, 65_535]);
+        let waits = u32::from(timeout) * 1000 - self.random.pick(&[0, 0, 1, 500]);
+        self.diagnostic(accepted, source, timeout);
+        self.reading = accepted.wrapping_add(waits);
+        self.bystander(source);
+        self.reading = accepted.wrapping_add(self.random.pick(&[0, 1, 499, waits - 1]));
+        self.diagnostic_report(source);
+    }
+
+    /// Lets so much time pass in so many steps, each below a turn, with a call behind each but the last.
+    fn pass(&mut self, time: u128, steps: u128) {
+        let each = time / steps;
+        for _ in 1..steps {
+            self.reading = self.reading.wrapping_add(each as u32);
+            if self.random.percent(20) {
+                let (reading, list) = (self.reading, self.list());
+                self.push(Record::Roam { reading, list });
+            } else {
+                let source = self.sender();
+                self.bystander(source);
+            }
+        }
+        self.reading = self.reading.wrapping_add((time - each * (steps - 1)) as u32);
+    }
+
+    /// A diagnostic request with one element.
+    fn diagnostic(&mut self, reading: u32, source: Address, timeout: u16) {
+        let random = &mut *self.random;
+        let [low, high] = timeout.to_le_bytes();
+        let octets = vec![10, 2, random.octet().max(1), 80, 4, 5, random.pick(&[1, 2]), low, high];
+        self.push(Record::Frame { reading, destination: STATION, source, octets });
+    }
+
+    /// A report call for diagnostics.
+    fn diagnostic_report(&mut self, console: Address) {
+        let (reading, kind) = (self.reading, Kind::Diagnostic);
+        self.push(Record::Report { reading, console, kind, buffer: 300, fill: 0xEE });
+    }
+
+    /// A call that leaves this sender's diagnostic request as it is but for its time: most are refused.
+    fn bystander(&mut self, source: Address) {
+        let reading = self.reading;
+        let random = &mut *self.random;
         let kind = Kind::Diagnostic;
         let buffer = random.pick(&[0, 259, 260, 300]);
-        let reading = accepted.wrapping_add(u32::from(timeout) * 1000 + random.pick(&[0, 1, 1, 1]));
         let list = console_list(random);
         let refused_time = Logging { time: [0; 9], transition: transition(random), departure: 0 };
         let refused_element = RsnaLogging { rsn: vec![0; 21], ..rsna_logging(random, 0) };
@@ -285,11 +371,7 @@ impl Maker<'_> {
             9 => logged,
             _ => Record::Change { reading, list: [list.clone(), list].concat() },
         };
-        let back = u32::from(random.percent(70));
-        self.push(Record::Frame { reading: accepted, destination: STATION, source, octets });
         self.push(between);
-        self.reading = reading.wrapping_sub(back);
-        self.push(Record::Report { reading: self.reading, console: source, kind, buffer: 300, fill: 0xEE });
     }
 
     /// A request writer's record.

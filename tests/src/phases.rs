@@ -1,6 +1,8 @@
 //! The phases of a run: fixed cases, request frames, report frames, traces.
 
+use crate::agreement::check_agreement;
 use crate::cases::{cases, limits, Input};
+use crate::clock_cases::clock_cases;
 use crate::compare::{compare_frame, compare_report, compare_trace, Difference};
 use crate::independence::check_independence;
 use crate::kind_cases::{kind_cases, kind_limits};
@@ -66,11 +68,11 @@ impl Run {
         Ok(printed)
     }
 
-    /// The same, and demand 3.
+    /// The same, demand 3, and the answers beside those of document 01's clock.
     fn calls_and_independence(&self, records: &[Vec<u8>]) -> Result<(), Difference> {
         let printed = self.calls(records)?;
         self.tally.count_answers(check_independence(&self.programs, records, &printed)?);
-        Ok(())
+        check_agreement(&self.programs, &self.tally, records, &printed)
     }
 
     /// The fixed cases.
@@ -118,7 +120,7 @@ impl Run {
 
 /// The papers' cases and the limits of traces and frames.
 pub fn fixed_inputs() -> Vec<Input> {
-    let cases = cases().into_iter().chain(kind_cases()).map(|case| case.input);
+    let cases = cases().into_iter().chain(kind_cases()).chain(clock_cases()).map(|case| case.input);
     cases.chain(limits()).chain(kind_limits()).collect()
 }
 

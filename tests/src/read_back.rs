@@ -2,6 +2,7 @@
 //! logged and chose. No octet of a frame has a part in what is expected.
 
 use crate::answers::answers;
+use crate::clock::Rule;
 use crate::compare::{records_text, Difference};
 use crate::listing::report_text;
 use crate::octets::Address;
@@ -22,7 +23,7 @@ impl ReadBack {
     /// Reads back what a run of these records printed.
     fn of(programs: &Programs, records: &[Vec<u8>], printed: &[u8]) -> ReadBack {
         let frames = given_frames(records, &String::from_utf8_lossy(printed));
-        let chosen = run_trace(&records.concat()).chosen;
+        let chosen = run_trace(Rule::Elapsed, &records.concat()).chosen;
         let read = read(programs, &frames);
         ReadBack { frames, chosen, read }
     }

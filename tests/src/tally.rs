@@ -2,6 +2,7 @@
 
 use crate::covered::Covered;
 use crate::event_body::EventBody;
+use crate::independence::Compared;
 use crate::report::{ReportFrame, Rest};
 use std::sync::atomic::{AtomicUsize, Ordering};
 use std::sync::Mutex;
@@ -23,12 +24,16 @@ impl Count {
 }
 
 /// Lines that programs printed, and how often each refusal number was among them; answers compared for
-/// demand 3; frames read back, and what was in them; the cases of document 02.
+/// demand 3, and beside document 01's clock; frames read back, and what was in them; the cases of document 02.
 #[derive(Default)]
 pub struct Tally {
     lines: Count,
     refusals: [Count; 18],
     answers: Count,
+    after_change: Count,
+    agreed: Count,
+    event_reports: Count,
+    diagnostic_reports: Count,
     frames: Count,
     elements: Count,
     transitions: Count,
@@ -52,8 +57,16 @@ impl Tally {
     }
 
     /// Counts answers compared with a newly set up gate's.
-    pub fn count_answers(&self, number: usize) {
-        self.answers.add(number);
+    pub fn count_answers(&self, compared: Compared) {
+        self.answers.add(compared.answers);
+        self.after_change.add(compared.after_change);
+    }
+
+    /// Counts answers that are those of document 01's clock, and reports that differ from its.
+    pub fn count_agreement(&self, agreed: usize, event_reports: usize, diagnostic_reports: usize) {
+        self.agreed.add(agreed);
+        self.event_reports.add(event_reports);
+        self.diagnostic_reports.add(diagnostic_reports);
     }
 
     /// Counts frames that were read back as they were chosen.
@@ -81,6 +94,10 @@ impl Tally {
         let named = [
             ("lines compared", &self.lines),
             ("answers compared with a newly set up gate", &self.answers),
+            ("of these after a network change", &self.after_change),
+            ("answers of document 01's clock, no age of a turn taken", &self.agreed),
+            ("event reports that differ from its, an age of a turn taken", &self.event_reports),
+            ("diagnostic reports that differ from its, an age of a turn taken", &self.diagnostic_reports),
             ("frames read back", &self.frames),
             ("elements in them", &self.elements),
             ("transitions among these", &self.transitions),

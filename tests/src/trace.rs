@@ -1,5 +1,6 @@
 //! The program `replay`: its records, read and written, and what it prints.
 
+use crate::clock::Rule;
 use crate::covered::Covered;
 use crate::listing::list_report;
 use crate::octets::{address_of, u16_of, Address, Kind};
@@ -30,6 +31,23 @@ pub enum Record {
     Change { reading: u32, list: Vec<Address> },
     Write { buffer: usize, fill: u8, kind: Kind, dialog: u8, wanted: Vec<Wanted> },
     Read { destination: Address, octets: Vec<u8> },
+}
+
+impl Record {
+    /// The reading that a call carries; setup and the console's records have none.
+    pub fn reading(&self) -> Option<u32> {
+        match self {
+            Record::Setup { .. } | Record::Write { .. } | Record::Read { .. } => None,
+            Record::Clock { reading }
+            | Record::Log { reading, .. }
+            | Record::LogRsna { reading, .. }
+            | Record::LogPeerLink { reading, .. }
+            | Record::Frame { reading, .. }
+            | Record::Report { reading, .. }
+            | Record::Roam { reading, .. }
+            | Record::Change { reading, .. } => Some(*reading),
+        }
+    }
 }
 
 /// Takes fields from the front of the input.
@@ -345,20 +363,26 @@ pub fn hexadecimal(octets: &[u8]) -> String {
     octets.iter().flat_map(|octet| [digit(octet / 16), digit(octet % 16)]).collect()
 }
 
-/// What a trace gives: the text that `replay` prints, what the gate chose for each frame that it gave, and the
-/// cases that it had.
+/// What a trace gives: the text that `replay` prints, what the gate chose for each frame that it gave, behind
+/// each record the longest age taken since setup, and the cases that the trace had.
 #[derive(Default)]
 pub struct Replayed {
     pub printed: String,
     pub chosen: Vec<ReportFrame>,
+    pub ages: Vec<u128>,
     pub covered: Covered,
 }
 
 /// Runs one record; gives what is printed for it, and what was chosen for a frame.
-fn run_record(station: &mut Station, record: &Record, chosen: &mut Option<ReportFrame>) -> String {
+fn run_record(
+    rule: Rule,
+    station: &mut Station,
+    record: &Record,
+    chosen: &mut Option<ReportFrame>,
+) -> String {
     match record {
         Record::Setup { identity, list } => {
-            let (answer, fresh) = Station::setup(identity, list);
+            let (answer, fresh) = Station::setup(rule, identity, list);
             *station = fresh;
             line(answer)
         }
@@ -392,9 +416,9 @@ fn run_record(station: &mut Station, record: &Record, chosen: &mut Option<Report
 /// refused at P`, P the record's first octet, and ends the run; so does input past 262,144 octets, after the
 /// records that are whole. Calls before any setup go to the gate that a setup with an empty identity and no
 /// console yields."
-pub fn run_trace(input: &[u8]) -> Replayed {
+pub fn run_trace(rule: Rule, input: &[u8]) -> Replayed {
     let within = &input[..input.len().min(LONGEST_TRACE)];
-    let mut station = Station::without_requesters();
+    let mut station = Station::without_requesters(rule);
     let mut replayed = Replayed::default();
     let mut at = 0;
     while at < within.len() {
@@ -404,11 +428,14 @@ pub fn run_trace(input: &[u8]) -> Replayed {
             return replayed;
         };
         replayed.covered.before(&station, &record);
+        let before = station.latest_reading();
         let oldest = station.log().first().filter(|_| station.log().len() == 64).map(|event| event.body.ty());
         let mut chosen = None;
-        let printed = run_record(&mut station, &record, &mut chosen);
+        let printed = run_record(rule, &mut station, &record, &mut chosen);
         replayed.covered.after(&record, oldest, &printed, chosen.as_ref());
+        replayed.covered.timed(before, &station, &record, &printed);
         replayed.chosen.extend(chosen);
+        replayed.ages.push(station.longest_age());
         replayed.printed += &printed;
         at += length;
     }
@@ -420,5 +447,5 @@ pub fn run_trace(input: &[u8]) -> Replayed {
 
 /// What `replay` prints.
 pub fn replay(input: &[u8]) -> String {
-    run_trace(input).printed
+    run_trace(Rule::Elapsed, input).printed
 }

@@ -2,14 +2,15 @@
 //! worked out by hand.
 
 use differential::cases::{cases, Input};
-use differential::clock::{age, is_late, time_units};
+use differential::clock::{age, is_late, time_units, Moment};
+use differential::clock_cases::clock_cases;
 use differential::kind_cases::kind_cases;
 use differential::listing::{list_report_input, list_request};
 use differential::trace::replay;
 
 #[test]
 fn every_case_prints_what_the_papers_say() {
-    for case in cases().into_iter().chain(kind_cases()) {
+    for case in cases().into_iter().chain(kind_cases()).chain(clock_cases()) {
         let printed = match &case.input {
             Input::Frame(octets) => list_request(octets),
             Input::Report(octets) => list_report_input(octets),
@@ -37,9 +38,15 @@ fn milliseconds_become_time_units() {
 
 #[test]
 fn a_diagnostic_is_late_after_its_timeout_and_not_at_it() {
-    assert!(!is_late(704, 4_294_966_000, 2));
-    assert!(is_late(705, 4_294_966_000, 2));
-    assert!(!is_late(5, 5, 0));
-    assert!(is_late(6, 5, 0));
-    assert!(is_late(4, 5, 65_535));
+    let by_counter =
+        |now, accepted, timeout| is_late(Moment::Reading(now), Moment::Reading(accepted), timeout);
+    assert!(!by_counter(704, 4_294_966_000, 2));
+    assert!(by_counter(705, 4_294_966_000, 2));
+    assert!(!by_counter(5, 5, 0));
+    assert!(by_counter(6, 5, 0));
+    assert!(by_counter(4, 5, 65_535));
+    let elapsed = |now, accepted, timeout| is_late(Moment::Elapsed(now), Moment::Elapsed(accepted), timeout);
+    assert!(!elapsed(4_294_969_296, 4_294_967_296, 2));
+    assert!(elapsed(4_294_969_297, 4_294_967_296, 2));
+    assert!(elapsed(4_294_967_296, 0, 2));
 }

@@ -1,5 +1,6 @@
 //! How document 02's request (a) is read: RSNA and peer link events. A test for each agreed line.
 
+use differential::clock::Rule;
 use differential::kind_cases::{
     full_frame, octets_of, peer_link, rsna, EXPANDED, LEGACY, LONG_RSNA, PEER_LINK, RSN, SHORT_RSNA,
 };
@@ -20,7 +21,7 @@ const IDENTITY: [u8; 17] = [13, 3, 0xA, 0xB, 0xC, 11, 1, 65, 12, 1, 66, 14, 1, 6
 
 /// A station with the requester A.
 fn station() -> Station {
-    Station::setup(&IDENTITY, &[A]).1
+    Station::setup(Rule::Elapsed, &IDENTITY, &[A]).1
 }
 
 /// Logs a transition, told apart by its reason.

@@ -1,5 +1,6 @@
 //! How document 01 is read: the gate. A test for each agreed line.
 
+use differential::clock::Rule;
 use differential::event_body::EventBody;
 use differential::octets::{Address, Kind};
 use differential::refusal::{refusal, Refusal};
@@ -14,7 +15,7 @@ const IDENTITY: [u8; 17] = [13, 3, 0xA, 0xB, 0xC, 11, 1, 65, 12, 1, 66, 14, 1, 6
 
 /// A station with the requesters A and B.
 fn station() -> Station {
-    let (answer, station) = Station::setup(&IDENTITY, &[A, B]);
+    let (answer, station) = Station::setup(Rule::Elapsed, &IDENTITY, &[A, B]);
     assert_eq!(answer, Ok(Answer::Accepted));
     station
 }
@@ -371,7 +372,7 @@ fn the_longest_identity_fits_the_shortest_buffer() {
     identity.extend([9; 236]);
     identity.extend([12, 1, 1, 14, 1, 1, 9, 1, 1]);
     assert_eq!(identity.len(), 252);
-    let (answer, mut station) = Station::setup(&identity, &[A]);
+    let (answer, mut station) = Station::setup(Rule::Elapsed, &identity, &[A]);
     assert_eq!(answer, Ok(Answer::Accepted));
     ask(&mut station, 0, &diagnostic(7, 5, 1, 9));
     let (answer, frame) = give(&mut station, 0, Kind::Diagnostic, 260);
@@ -406,16 +407,16 @@ fn console_lists_that_are_refused() {
     let group = [3, 0, 0, 0, 0, 1];
     let five: Vec<Address> = (1..=5).map(|last| [2, 0, 0, 0, 0, last]).collect();
     for list in [vec![], five.clone(), vec![A, B, A], vec![A, group]] {
-        assert_eq!(Station::setup(&[], &list).0, Err(refusal(15, 0)));
+        assert_eq!(Station::setup(Rule::Elapsed, &[], &list).0, Err(refusal(15, 0)));
         assert_eq!(station().roam(0, &list), Err(refusal(15, 0)));
         assert_eq!(station().change_network(0, &list), Err(refusal(15, 0)));
     }
-    assert_eq!(Station::setup(&IDENTITY, &five[..4]).0, Ok(Answer::Accepted));
+    assert_eq!(Station::setup(Rule::Elapsed, &IDENTITY, &five[..4]).0, Ok(Answer::Accepted));
 }
 
 #[test]
 fn identities_that_are_refused() {
-    let refused = |identity: &[u8]| Station::setup(identity, &[A]).0 == Err(refusal(16, 0));
+    let refused = |identity: &[u8]| Station::setup(Rule::Elapsed, identity, &[A]).0 == Err(refusal(16, 0));
     assert!(refused(&[]));
     assert!(refused(&IDENTITY[..16]));
     assert!(refused(&IDENTITY[..14]));
@@ -437,7 +438,7 @@ fn identities_that_are_refused() {
 #[test]
 fn the_consoleless_gate() {
     for (identity, list) in [(&IDENTITY[..], &[][..]), (&[][..], &[A][..])] {
-        let mut station = Station::setup(identity, list).1;
+        let mut station = Station::setup(Rule::Elapsed, identity, list).1;
         assert_eq!(station.clock(0), Ok(Answer::Accepted));
         log(&mut station, 0, 1);
         let transition = Transition { source: A, target: B, time: 0, reason: 0, result: 0, signal: [0; 4] };

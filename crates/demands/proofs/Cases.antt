@@ -26,15 +26,16 @@ use Rattle.events.specs.Choice.{firstOf, nextPlace}
 use Rattle.events.specs.Conditions.{asked, transitionMeets, rsnaMeets, channelMet, peerLinkMeets, typeMeets, meetsAt, meets}
 use Rattle.identities.specs.Identity.{stands, passRow, goodFrom, goodIdentity}
 use Rattle.reports.specs.Reports.{reportElement, eventElement}
-use Rattle.model.specs.Model.{standard, Address, Station, Call, logging, frame, report, ofLength}
+use Rattle.model.specs.Clocks.{elapsedAt, elapsedClock}
+use Rattle.model.specs.Model.{standard, Station, Call, logging, frame, report, ofLength}
 use Rattle.model.specs.Requesters.{repeated, badList, newRequester, find, put}
 use Rattle.model.specs.Dialogs.{replace}
 use Rattle.model.specs.Fill.{fillWith, fill, nextFrame}
 use Rattle.model.specs.Events.{eventTreatment, openEvents, takeEvents, nextEventPlace, gave, without, reportFront, treatFront, nextFrom, nextEvent, unlessDone}
 use Rattle.model.specs.Diagnostics.{diagnosticTreatment, isLate, onTime, unlessOver, dropLate, diagnosticsOf, takeDiagnostics, diagnosticReport, nextDiagnostic}
-use Rattle.model.specs.Stations.{setup, tickRequester, tick, logRequester, logEntry, logCause, logCall, withRequester, serveFound, serveListed, takeKind, takeRequest, requestCall, frameCall, giveEvents, giveDiagnostics, ifOutstanding, octetsOf, giveKind, giveReport, reportCall, act, readingOf, step}
+use Rattle.model.specs.Stations.{setup, timed, tickRequester, withoutLate, tick, logRequester, logEntry, logCause, logCall, withRequester, serveFound, serveListed, takeKind, takeRequest, requestCall, frameCall, giveEvents, giveDiagnostics, ifOutstanding, octetsOf, giveKind, giveReport, reportCall, act, readingOf, step}
 use Rattle.model.specs.Runs.{run}
-use Rattle.model.specs.Starred.{slowTransition}
+use Rattle.model.specs.Starred.{someIdentity, someConsole, someGate, slowTransition}
 use Rattle.laws.specs.Members.{Among, first, later, any}
 use Rattle.laws.proofs.Members.{among-none}
 use Rattle.laws.proofs.Choice.{never}
@@ -42,12 +43,6 @@ use Rattle.events.specs.Loggings.{LoggedEvent, transition, rsna, peerLink, entr
 use Rattle.model.specs.Sound.{loggingCall}
 use Rattle.demands.specs.StationRoundTrip.{RoundTrip, WellFormed}
 use Rattle.demands.proofs.StationRoundTrip.{station-round-trip}
-
-identity : List ℕ
-identity = 13 ∷ 3 ∷ 1 ∷ 2 ∷ 3 ∷ 11 ∷ 1 ∷ 4 ∷ 12 ∷ 1 ∷ 5 ∷ 14 ∷ 1 ∷ 6 ∷ 9 ∷ 1 ∷ 7 ∷ []
-
-console : Address
-console = 2 ∷ 0 ∷ 0 ∷ 0 ∷ 0 ∷ 1 ∷ []
 
 -- an EAP method of one octet, and no RSN element
 login : RsnaEvent
@@ -75,8 +70,8 @@ calls =
     logging 10 (transition slowTransition)
     ∷ logging 10 (rsna login [])
     ∷ logging 10 (peerLink link)
-    ∷ frame 11 console console (10 ∷ 0 ∷ 7 ∷ 78 ∷ 3 ∷ 5 ∷ 0 ∷ 4 ∷ 78 ∷ 3 ∷ 6 ∷ 1 ∷ 4 ∷ 78 ∷ 3 ∷ 7 ∷ 2 ∷ 4 ∷ [])
-    ∷ frame 12 console console (10 ∷ 2 ∷ 8 ∷ 80 ∷ 4 ∷ 6 ∷ 1 ∷ 9 ∷ 0 ∷ [])
+    ∷ frame 11 someConsole someConsole (10 ∷ 0 ∷ 7 ∷ 78 ∷ 3 ∷ 5 ∷ 0 ∷ 4 ∷ 78 ∷ 3 ∷ 6 ∷ 1 ∷ 4 ∷ 78 ∷ 3 ∷ 7 ∷ 2 ∷ 4 ∷ [])
+    ∷ frame 12 someConsole someConsole (10 ∷ 2 ∷ 8 ∷ 80 ∷ 4 ∷ 6 ∷ 1 ∷ 9 ∷ 0 ∷ [])
     ∷ []
 
 zeros : ℕ → List ℕ
@@ -84,15 +79,15 @@ zeros zero = []
 zeros (suc n) = 0 ∷ zeros n
 
 abbrev gate : Station
-gate = run standard (setup standard identity (console ∷ []) .station) calls
+gate = someGate elapsedClock calls
 
 abbrev after : Kind → ℕ → Type 0
-after kind n = step standard gate (report 13 console kind (zeros 260)) .answer ≡ ofLength n
+after kind n = step elapsedClock standard gate (report 13 someConsole kind (zeros 260)) .answer ≡ ofLength n
 
 -- a transition of 35 octets, a login of 26 and a link of 27; and the identity behind five
-answered : after Event 91 × after Diagnostic 25
-unfolding zeros identity console slowTransition login link calls if_then_else_ repeatWhile same octetsAt pieceEnd inRange goodDate goodClock goodTime wholeStep Subelements·step walk subelementsOf subelementsStart any badToken withElement ownRequestStep elementStep walkElements frameKind frameCause requestOf headerCause readRequest pushed lengthOf bodyOctet bodyAt transitionBody rsnaBody peerLinkBody entryWith firstOf nextPlace asked transitionMeets rsnaMeets channelMet peerLinkMeets typeMeets meetsAt meets stands passRow goodFrom goodIdentity reportElement eventElement repeated badList newRequester find put replace fillWith fill nextFrame eventTreatment openEvents takeEvents nextEventPlace gave without reportFront treatFront nextFrom nextEvent unlessDone diagnosticTreatment isLate onTime unlessOver dropLate diagnosticsOf takeDiagnostics diagnosticReport nextDiagnostic setup tickRequester tick logRequester logEntry logCause logCall withRequester serveFound serveListed takeKind takeRequest requestCall frameCall giveEvents giveDiagnostics ifOutstanding octetsOf giveKind giveReport reportCall act readingOf step run
-answered = (refl, refl)
+both-given : after Event 91 × after Diagnostic 25
+unfolding zeros someIdentity someConsole slowTransition login link calls if_then_else_ repeatWhile same octetsAt pieceEnd inRange goodDate goodClock goodTime wholeStep Subelements·step walk subelementsOf subelementsStart any badToken withElement ownRequestStep elementStep walkElements frameKind frameCause requestOf headerCause readRequest pushed lengthOf bodyOctet bodyAt transitionBody rsnaBody peerLinkBody entryWith firstOf nextPlace asked transitionMeets rsnaMeets channelMet peerLinkMeets typeMeets meetsAt meets stands passRow goodFrom goodIdentity reportElement eventElement repeated badList newRequester find put replace fillWith fill nextFrame eventTreatment openEvents takeEvents nextEventPlace gave without reportFront treatFront nextFrom nextEvent unlessDone diagnosticTreatment isLate onTime unlessOver dropLate diagnosticsOf takeDiagnostics diagnosticReport nextDiagnostic elapsedAt setup timed tickRequester withoutLate logRequester logEntry logCause logCall withRequester serveFound serveListed takeKind takeRequest requestCall frameCall giveEvents giveDiagnostics ifOutstanding octetsOf giveKind giveReport reportCall act readingOf step run
+both-given = (refl, refl)
 
 -- the logged events have their lengths, so both reports are read back
 module _ (x : Logging) where
@@ -120,8 +115,8 @@ unfolding calls
 calls-formed x m =
     one-of m (is-slow x) (λ m₁. one-of m₁ (is-login x) (λ m₂. one-of m₂ (is-link x) (λ m₃. one-of m₃ (λ e. never cc) (λ m₄. one-of m₄ (λ e. never cc) among-none))))
 
-events-read-back : RoundTrip identity calls (tick 13 gate) console Event 91 (step standard gate (report 13 console Event (zeros 260)) .buffer)
-events-read-back = station-round-trip standard identity (console ∷ []) calls calls-formed 13 console Event (zeros 260) 91 (answered .0)
+events-read-back : RoundTrip someIdentity calls (tick elapsedClock 13 gate) someConsole Event 91 (step elapsedClock standard gate (report 13 someConsole Event (zeros 260)) .buffer)
+events-read-back = station-round-trip standard someIdentity (someConsole ∷ []) calls calls-formed 13 someConsole Event (zeros 260) 91 (both-given .0)
 
-identity-read-back : RoundTrip identity calls (tick 13 gate) console Diagnostic 25 (step standard gate (report 13 console Diagnostic (zeros 260)) .buffer)
-identity-read-back = station-round-trip standard identity (console ∷ []) calls calls-formed 13 console Diagnostic (zeros 260) 25 (answered .1)
+identity-read-back : RoundTrip someIdentity calls (tick elapsedClock 13 gate) someConsole Diagnostic 25 (step elapsedClock standard gate (report 13 someConsole Diagnostic (zeros 260)) .buffer)
+identity-read-back = station-round-trip standard someIdentity (someConsole ∷ []) calls calls-formed 13 someConsole Diagnostic (zeros 260) 25 (both-given .1)

@@ -12,6 +12,7 @@ use Rattle.laws.specs.Members.{Among, first, later}
 use Rattle.laws.specs.Choice.{if_then_else_}
 use Rattle.laws.proofs.Members.{among-map, all-among}
 use Rattle.laws.proofs.Choice.{either, never}
+use Rattle.units.specs.Time.{elapsedSince}
 use Rattle.octets.specs.declared.numbers.Kind.{Kind}
 use Rattle.octets.specs.declared.numbers.Kind.the-variants.{Event, Diagnostic}
 use Rattle.octets.specs.Numbers.{successful, incapable}
@@ -91,28 +92,28 @@ module _ (i : List ℕ) (cs : List Call) (whole : WellFormed cs) (log : List Ent
         good = ((whole (r .0) m, accepts .0, accepts .1), (m, among-entries (j .list) log (j .is) (r .0) (r .1)));
       }
 
-  place-within : (r : EventRequest) (x : Element) (place : ℕ) → nextEventPlace log r x ≡ some place → place < length log
-  place-within r x place e = next-event .given log r x place e .eligible .logged
+  place-within : (r : EventRequest) (x : Element) (place : ℕ) → nextEventPlace elapsedSince log r x ≡ some place → place < length log
+  place-within r x place e = next-event .given elapsedSince log r x place e .eligible .logged
 
   module _ (r : EventRequest) (x : Element) (xs : List Element) (behind : Option (Piece EventRequest)) (later-tells : AllTell behind) where
-    report-tell : (o : Option ℕ) → nextEventPlace log r x ≡ o → AllTell (reportFront log r x xs behind o)
+    report-tell : (o : Option ℕ) → nextEventPlace elapsedSince log r x ≡ o → AllTell (reportFront log r x xs behind o)
     unfolding reportFront
     report-tell (some place) e = one-tell _ (event-tell (x .token) place (place-within r x place e))
     report-tell none e = either AllTell _ _ _ (λ _. one-tell _ (plain-tell x successful (omega arith))) (λ _. later-tells)
 
-    treat-tell : (t : Treatment) → AllTell (treatFront log r x xs behind t)
+    treat-tell : (t : Treatment) → AllTell (treatFront elapsedSince log r x xs behind t)
     unfolding treatFront
-    treat-tell Report = report-tell (nextEventPlace log r x) refl
+    treat-tell Report = report-tell (nextEventPlace elapsedSince log r x) refl
     treat-tell Incapable = one-tell _ (plain-tell x incapable (omega arith))
     treat-tell Cancel = later-tells
     treat-tell Identity = later-tells
 
-  from-tell : (r : EventRequest) (xs : List Element) → AllTell (nextFrom log r xs)
+  from-tell : (r : EventRequest) (xs : List Element) → AllTell (nextFrom elapsedSince log r xs)
   unfolding nextFrom
   from-tell r [] = λ p e. never cc
-  from-tell r (x ∷ xs) = treat-tell r x xs (nextFrom log (without r xs) xs) (from-tell (without r xs) xs) (eventTreatment (x .ty))
+  from-tell r (x ∷ xs) = treat-tell r x xs (nextFrom elapsedSince log (without r xs) xs) (from-tell (without r xs) xs) (eventTreatment (x .ty))
 
-  pub events-tell : (r : EventRequest) (p : Piece EventRequest) → nextEvent log r ≡ some p → Tells Event (Good i cs log Event) (p .octets)
+  pub events-tell : (r : EventRequest) (p : Piece EventRequest) → nextEvent elapsedSince log r ≡ some p → Tells Event (Good i cs log Event) (p .octets)
   unfolding nextEvent
   events-tell r p e = from-tell r (r .elements) p e
 

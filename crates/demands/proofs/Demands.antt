@@ -4,39 +4,45 @@ use Prim.Native.Nat.{ℕ}
 use mathlib.Core.Path.{_≡_, refl, sym, ap, _∙_}
 use mathlib.Core.List.{List, [], _∷_, map}
 use mathlib.Core.Option.{Option, none, some}
-use Rattle.laws.specs.Members.{Among, first, later}
+use lib.ListN.{length-map}
+use Rattle.laws.specs.Members.{Among, first, later, All, nil, also}
 use Rattle.laws.proofs.Members.{among-none}
 use Rattle.octets.specs.declared.numbers.Kind.{Kind}
 use Rattle.octets.specs.declared.refusals.Refusal.{Refusal}
 use Rattle.events.specs.Loggings.{Logging, EventLengths}
+use Rattle.model.specs.Clocks.{elapsedClock}
 use Rattle.model.specs.Model.{standard, Address, Call, clock, report, Result, ofLength, turnedAway}
 use Rattle.model.specs.Model.{Station as Model·Station}
-use Rattle.model.specs.Stations.{setup, tick, readingOf, step}
+use Rattle.model.specs.Stations.{setup, timed, readingOf, step}
 use Rattle.model.specs.Refusals.{lentBuffer}
-use Rattle.model.specs.Runs.{run, sender, Reply, reply, toSender}
-use Rattle.model.specs.Independence.{from, answers, freshAnswers}
+use Rattle.model.specs.Runs.{run, Always, sender, Reply, reply, toSender}
+use Rattle.model.specs.Independence.{answers, BelowTop}
+use Rattle.model.specs.Agreement.{replies}
 use Rattle.model.specs.Sound.{loggingCall}
 use Rattle.model.proofs.Refusals.{refused-call, refused-setup}
-use Rattle.model.proofs.Independence.{independent}
+use Rattle.model.proofs.CallLaws.{step-timer}
+use Rattle.model.proofs.Premise.{elapsed-is-true}
+use Rattle.model.proofs.Independence.{independent, independent-short-run}
+use Rattle.model.proofs.Agreement.{old-and-new-agree}
 use Rattle.station.specs.declared.Station.{Station}
 use Rattle.station.specs.declared.Outcome.{Outcome}
 use Rattle.station.specs.Views.{view, viewOutcome}
 use Rattle.demands.specs.StationRoundTrip.{WellFormed, RoundTrip}
 use Rattle.demands.specs.Chains.{Made, HandedIn, Allowed, Chain, none-made, made, SetUp}
-use Rattle.demands.specs.Demands.{CodeLeftAlone, Total, CodeLeftUnnamed, TotalSetup, callOf, Exact, replied, IndependentRequesters}
+use Rattle.demands.specs.Demands.{CodeLeftAlone, Total, CodeLeftUnnamed, TotalSetup, callOf, Exact, answered, replied, ShortOfTop, IndependentRequesters, IndependentShortChain, AnswersAsBefore, TimeIsTrue}
 use Rattle.demands.proofs.StationRoundTrip.{station-round-trip}
 
 -- ---- what an allowed call gives is what the model gives
 
 module _ {g : Station} {m : Made} (a : Allowed g m) where
-  station-is : view (m .outcome .station) ≡ step standard (view g) (m .call) .station
+  station-is : view (m .outcome .station) ≡ step elapsedClock standard (view g) (m .call) .station
   unfolding viewOutcome
   station-is = ap (λ (x : Result). x .station) (a .contract)
 
-  answer-is : viewOutcome (m .outcome) (m .buffer) .answer ≡ step standard (view g) (m .call) .answer
+  answer-is : viewOutcome (m .outcome) (m .buffer) .answer ≡ step elapsedClock standard (view g) (m .call) .answer
   answer-is = ap (λ (x : Result). x .answer) (a .contract)
 
-  buffer-is : m .buffer ≡ step standard (view g) (m .call) .buffer
+  buffer-is : m .buffer ≡ step elapsedClock standard (view g) (m .call) .buffer
   unfolding viewOutcome
   buffer-is = ap (λ (x : Result). x .buffer) (a .contract)
 
@@ -45,10 +51,10 @@ module _ {g : Station} {m : Made} (a : Allowed g m) where
 pub total : Total
 unfolding viewOutcome
 total g m r a e =
-    let p = refused-call standard (view g) (m .call) r (sym (answer-is a) ∙ e) in
+    let p = refused-call elapsedClock standard (view g) (m .call) r (sym (answer-is a) ∙ e) in
     record {
       refusal = p .refusal;
-      station = λ k c b. station-is a ∙ p .station ∙ ap (λ (d : Call). step standard (view g) d .station) (sym c) ∙ sym (station-is b);
+      station = λ k c b. station-is a ∙ p .station ∙ ap (λ (d : Call). step elapsedClock standard (view g) d .station) (sym c) ∙ sym (station-is b);
       buffer = buffer-is a ∙ p .buffer;
     }
 
@@ -61,10 +67,19 @@ total-setup i l o r s e =
 -- ---- chains
 
 -- the station that a chain leads to is the model's after the same calls
-chain-run : {g h : Station} {ms : List Made} → Chain g ms h → view h ≡ run standard (view g) (map callOf ms)
+chain-run : {g h : Station} {ms : List Made} → Chain g ms h → view h ≡ run elapsedClock standard (view g) (map callOf ms)
 unfolding run
 chain-run none-made = refl
-chain-run (made {ms = ms} a c) = chain-run c ∙ ap (λ (x : Model·Station). run standard x (map callOf ms)) (station-is a)
+chain-run (made {ms = ms} a c) = chain-run c ∙ ap (λ (x : Model·Station). run elapsedClock standard x (map callOf ms)) (station-is a)
+
+-- the first from setup
+module _ (i : List ℕ) (l : List Address) (o : Outcome) (s : SetUp i l o) where
+  start-is : view (o .station) ≡ setup standard i l .station
+  unfolding viewOutcome
+  start-is = ap (λ (x : Result). x .station) s
+
+  run-from-setup : {g : Station} {ms : List Made} → Chain (o .station) ms g → view g ≡ run elapsedClock standard (setup standard i l .station) (map callOf ms)
+  run-from-setup {ms = ms} c = chain-run c ∙ ap (λ (x : Model·Station). run elapsedClock standard x (map callOf ms)) start-is
 
 handed-in : (c : Call) (x : Logging) → loggingCall x ≡ c → HandedIn c → EventLengths (x .event)
 handed-in c x e h = rw (← e) at h
@@ -82,9 +97,8 @@ chain-formed (made a c) = λ x m. by x m (a .handed-in) (chain-formed c)
 pub exact : Exact
 unfolding viewOutcome
 exact i l o ms g s c m t a kind b n allowed is e =
-    let start : view (o .station) ≡ setup standard i l .station = ap (λ (x : Result). x .station) s in
-    let here : view g ≡ run standard (setup standard i l .station) (map callOf ms) = chain-run c ∙ ap (λ (x : Model·Station). run standard x (map callOf ms)) start in
-    let there : (d : Call) → d ≡ report t a kind b → step standard (view g) d ≡ step standard (run standard (setup standard i l .station) (map callOf ms)) (report t a kind b) = λ d q. rw (q, here) in
+    let here = run-from-setup i l o s c in
+    let there : (d : Call) → d ≡ report t a kind b → step elapsedClock standard (view g) d ≡ step elapsedClock standard (run elapsedClock standard (setup standard i l .station) (map callOf ms)) (report t a kind b) = λ d q. rw (q, here) in
     let answer = sym (ap (λ (x : Result). x .answer) (there (m .call) is)) ∙ sym (answer-is allowed) ∙ e in
     let trip = station-round-trip standard i l (map callOf ms) (chain-formed c) t a kind b n answer in
     rw (here, buffer-is allowed, there (m .call) is) trip
@@ -95,11 +109,41 @@ chain-answers : {g h : Station} {ms : List Made} → Chain g ms h → map replie
 unfolding answers reply viewOutcome
 chain-answers none-made = refl
 chain-answers (made {g = g} {m = m} {ms = ms} a c) =
-    let here : replied m ≡ toSender (sender (m .call)) (λ s. reply standard (view g) (m .call)) = rw (answer-is a, buffer-is a) in
-    let there : map replied ms ≡ answers standard (step standard (view g) (m .call) .station) (map callOf ms) = chain-answers c ∙ ap (λ (x : Model·Station). answers standard x (map callOf ms)) (station-is a) in
+    let here : replied m ≡ toSender (sender (m .call)) (λ s. reply elapsedClock standard (view g) (m .call)) = rw (answer-is a, buffer-is a) in
+    let there : map replied ms ≡ answers standard (step elapsedClock standard (view g) (m .call) .station) (map callOf ms) = chain-answers c ∙ ap (λ (x : Model·Station). answers standard x (map callOf ms)) (station-is a) in
     rw (here, there)
 
+answers-from-setup : (i : List ℕ) (l : List Address) (o : Outcome) {g : Station} {ms : List Made} → SetUp i l o → Chain (o .station) ms g
+    → map replied ms ≡ answers standard (setup standard i l .station) (map callOf ms)
+answers-from-setup i l o {ms = ms} s c = chain-answers c ∙ ap (λ (x : Model·Station). answers standard x (map callOf ms)) (start-is i l o s)
+
+-- a call leaves the time that it was made at
+chain-below : {g h : Station} {ms : List Made} → Chain g ms h → All ShortOfTop ms → Always BelowTop elapsedClock standard (view g) (map callOf ms)
+unfolding Always timed
+chain-below none-made nil = tt
+chain-below (made {g = g} {m = m} {ms = ms} a c) (also p ps) =
+    (rw (station-is a, step-timer elapsedClock standard (view g) (m .call)) at p, rw (station-is a) at (chain-below c ps))
+
 pub independent-requesters : IndependentRequesters
-unfolding viewOutcome
-independent-requesters i l o ms g s c =
-    chain-answers c ∙ ap (λ (x : Model·Station). answers standard x (map callOf ms)) (ap (λ (x : Result). x .station) s) ∙ independent standard i l (map callOf ms)
+independent-requesters i l o ms g s c h = answers-from-setup i l o s c ∙ independent standard i l (map callOf ms) (rw (start-is i l o s) at (chain-below c h))
+
+pub independent-short-chain : IndependentShortChain
+independent-short-chain i l o ms g s c h = answers-from-setup i l o s c ∙ independent-short-run standard i l (map callOf ms) (rw (length-map ms callOf) h)
+
+-- ---- document 02 (c)
+
+chain-replies : {g h : Station} {ms : List Made} → Chain g ms h → map answered ms ≡ replies elapsedClock standard (view g) (map callOf ms)
+unfolding replies reply viewOutcome
+chain-replies none-made = refl
+chain-replies (made {g = g} {m = m} {ms = ms} a c) =
+    let here : answered m ≡ reply elapsedClock standard (view g) (m .call) = rw (answer-is a, buffer-is a) in
+    let there : map answered ms ≡ replies elapsedClock standard (step elapsedClock standard (view g) (m .call) .station) (map callOf ms) = chain-replies c ∙ ap (λ (x : Model·Station). replies elapsedClock standard x (map callOf ms)) (station-is a) in
+    rw (here, there)
+
+pub answers-as-before : AnswersAsBefore
+answers-as-before i l o ms g s c young =
+    chain-replies c ∙ ap (λ (x : Model·Station). replies elapsedClock standard x (map callOf ms)) (start-is i l o s) ∙ sym (old-and-new-agree standard i l (map callOf ms) young)
+
+pub time-is-true : TimeIsTrue
+time-is-true i l o ms g s c t ts apart readings =
+    ap (λ (x : Model·Station). x .timer .now) (run-from-setup i l o s c) ∙ elapsed-is-true standard i l (map callOf ms) t ts apart readings

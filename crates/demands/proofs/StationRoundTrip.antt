@@ -13,6 +13,7 @@ use Rattle.laws.specs.Choice.{if_then_else_}
 use Rattle.laws.specs.Buffers.{onto, pieces}
 use Rattle.laws.proofs.Choice.{either, never}
 use Rattle.laws.proofs.Members.{all-weaken}
+use Rattle.units.specs.Time.{elapsedSince}
 use Rattle.octets.specs.declared.numbers.Kind.{Kind}
 use Rattle.octets.specs.declared.numbers.Kind.the-variants.{Event, Diagnostic}
 use Rattle.octets.specs.Numbers.{category, reportAction, longestFrame, reportBuffer}
@@ -20,6 +21,7 @@ use Rattle.octets.specs.Addresses.{isGroup}
 use Rattle.events.specs.declared.Entry.{Entry}
 use Rattle.identities.specs.Identity.{goodIdentity}
 use Rattle.model.specs.declared.Diagnostic.{Diagnostic as DiagnosticElement}
+use Rattle.model.specs.Clocks.{elapsedClock}
 use Rattle.model.specs.Model.{Address, EventRequest, DiagnosticRequest, Requester, Station, Call, report, Answer, nothing, ofLength, turnedAway}
 use Rattle.model.specs.Requesters.{find}
 use Rattle.model.specs.Fill.{Piece, before, fill, nextFrame}
@@ -81,11 +83,11 @@ module _ (i : List ℕ) (cs : List Call) (whole : WellFormed cs) (g : Station) (
   Makes kind v = v .answer ≡ ofLength n → RoundTrip i cs g a kind n (v .buffer)
 
   module _ (few : 3 ≤ length b) (r : Requester) (found : find a (g .requesters) ≡ some r) where
-    gives-events : (q : EventRequest) → r .events ≡ some q → Makes Event (giveEvents (g .log) b r q)
+    gives-events : (q : EventRequest) → r .events ≡ some q → Makes Event (giveEvents elapsedSince (g .log) b r q)
     unfolding giveEvents
     gives-events q e =
         let tells = events-tell i cs whole (g .log) (sound .log) in
-        frame-read-back i cs g Event (nextEvent (g .log)) tells (q .dialog) q b a r found few
+        frame-read-back i cs g Event (nextEvent elapsedSince (g .log)) tells (q .dialog) q b a r found few
         (λ xs q′ h. events e h) n
 
     identity-there : Identified i g → (g .identity ≡ some i) × (goodIdentity i ≡ true)
@@ -107,17 +109,17 @@ module _ (i : List ℕ) (cs : List Call) (whole : WellFormed cs) (g : Station) (
     outstanding kind give none f = λ e. never cc
     outstanding kind give (some q) f = f q refl
 
-    gives-kind : (kind : Kind) → Makes kind (giveKind (g .identity) (g .log) b r kind)
+    gives-kind : (kind : Kind) → Makes kind (giveKind elapsedSince (g .identity) (g .log) b r kind)
     unfolding giveKind
     gives-kind Event = outstanding Event _ (r .events) gives-events
     gives-kind Diagnostic = outstanding Diagnostic _ (r .diagnostics) gives-diagnostics
 
-  gives-report : (kind : Kind) (r : Requester) → find a (g .requesters) ≡ some r → Makes kind (giveReport (g .identity) (g .log) kind b r)
+  gives-report : (kind : Kind) (r : Requester) → find a (g .requesters) ≡ some r → Makes kind (giveReport elapsedSince (g .identity) (g .log) kind b r)
   unfolding giveReport
   gives-report kind r found = either (Makes kind) _ _ _ (λ _ e. never cc) (λ h. gives-kind (omega (arith, ltb-false (length b) reportBuffer h)) r found kind)
 
   found-read-back : (kind : Kind) (o : Option Requester) → find a (g .requesters) ≡ o
-      → serveFound a (giveReport (g .identity) (g .log) kind b) b g o .answer ≡ ofLength n → RoundTrip i cs g a kind n (serveFound a (giveReport (g .identity) (g .log) kind b) b g o .buffer)
+      → serveFound a (giveReport elapsedSince (g .identity) (g .log) kind b) b g o .answer ≡ ofLength n → RoundTrip i cs g a kind n (serveFound a (giveReport elapsedSince (g .identity) (g .log) kind b) b g o .buffer)
   unfolding serveFound
   found-read-back kind none found = λ e. never cc
   found-read-back kind (some r) found = gives-report kind r found
@@ -126,5 +128,5 @@ module _ (i : List ℕ) (cs : List Call) (whole : WellFormed cs) (g : Station) (
 pub station-round-trip : StationRoundTrip
 unfolding step act readingOf reportCall serveListed
 station-round-trip most i l cs whole t a kind b n e =
-    let g : Station = tick t (run most (setup most i l .station) cs) in
-    found-read-back i cs whole g (sound-tick most i cs t _ (always-sound .after most i l cs)) a b n kind (find a (g .requesters)) refl e
+    let g : Station = tick elapsedClock t (run elapsedClock most (setup most i l .station) cs) in
+    found-read-back i cs whole g (sound-tick most i cs elapsedClock t _ (always-sound .after elapsedClock most i l cs)) a b n kind (find a (g .requesters)) refl e

@@ -5,6 +5,7 @@ use mathlib.Core.Path.{_≡_}
 use mathlib.Core.List.{List, [], _∷_}
 use Prim.Native.Nat.{ℕ}
 use Rattle.events.specs.Loggings.{EventLengths}
+use Rattle.model.specs.Clocks.{elapsedClock}
 use Rattle.model.specs.Model.{standard, Address, Call, clock, logging, frame, report, roam, change}
 use Rattle.model.specs.Stations.{setup, step}
 use Rattle.station.specs.declared.Station.{Station}
@@ -29,7 +30,7 @@ HandedIn (change t l) = Unit {0}
 -- a call made on the station g: the equation of its method's contract
 pub record Allowed (g : Station) (m : Made) : Type 0 where
   pub handed-in : HandedIn (m .call)
-  pub contract : viewOutcome (m .outcome) (m .buffer) ≡ step standard (view g) (m .call)
+  pub contract : viewOutcome (m .outcome) (m .buffer) ≡ step elapsedClock standard (view g) (m .call)
 
 -- each on the station that the one before it returned
 pub data Chain : Station → List Made → Station → Type 0 where

@@ -1,17 +1,23 @@
--- The three demands, said of the code: for every chain of stations and answers in which each is what its method's contract allows of the
+-- The three demands and document 02 (c), said of the code: for every chain of stations and answers in which each is what its method's contract allows of the
 -- one before, the first from setup. Their proofs are in proofs/Demands.antt.
 -- Assumes nothing.
-use Prim.Native.Nat.{ℕ}
+use Prim.Native.Nat.{ℕ, _-_, _%_, _<_, min}
 use mathlib.Core.Path.{_≡_}
-use mathlib.Core.List.{List, [], map}
+use mathlib.Core.List.{List, _∷_, map}
 use mathlib.Core.Option.{Option}
+use lib.ListN.{length}
+use Rattle.laws.specs.Members.{All}
+use Rattle.units.specs.Time.{turn, elapsedTop}
 use Rattle.octets.specs.declared.numbers.Kind.{Kind}
 use Rattle.octets.specs.declared.refusals.Refusal.{Refusal}
+use Rattle.model.specs.Clocks.{counterClock, elapsedClock}
 use Rattle.model.specs.Model.{standard, Address, Call, clock, report, ofLength, turnedAway}
 use Rattle.model.specs.Stations.{setup, tick, readingOf, nobody}
 use Rattle.model.specs.Refusals.{lentBuffer, causesOf, setupCauses, RefusedBy}
-use Rattle.model.specs.Runs.{sender, Reply, toSender}
+use Rattle.model.specs.Runs.{Always, sender, Reply, toSender}
 use Rattle.model.specs.Independence.{from, freshAnswers}
+use Rattle.model.specs.Agreement.{replies, Young}
+use Rattle.model.specs.Premise.{LessThanTurnApart, latest}
 use Rattle.requesters.specs.Views.{viewAnswer}
 use Rattle.station.specs.declared.Station.{Station}
 use Rattle.station.specs.declared.Outcome.{Outcome}
@@ -48,15 +54,45 @@ abbrev pub Exact : Type 0
 Exact =
     (i : List ℕ) (l : List Address) (o : Outcome) (ms : List Made) (g : Station) → SetUp i l o → Chain (o .station) ms g
     → (m : Made) (t : ℕ) (a : Address) (kind : Kind) (b : List ℕ) (n : ℕ) → Allowed g m → m .call ≡ report t a kind b → viewAnswer (m .outcome .answer) ≡ ofLength n
-    → RoundTrip i (map callOf ms) (tick t (view g)) a kind n (m .buffer)
+    → RoundTrip i (map callOf ms) (tick elapsedClock t (view g)) a kind n (m .buffer)
 
 -- ---- demand 3
 
--- the answer to a call's sender, and every octet of its lent buffer; none where it has no sender
+-- the answer to a call, and every octet of its lent buffer
+abbrev pub answered : Made → Reply
+answered m = record { answer = viewAnswer (m .outcome .answer); buffer = m .buffer }
+
+-- to the call's sender; none where it has no sender
 abbrev pub replied : Made → Option Reply
-replied m = toSender (sender (m .call)) (λ s. record { answer = viewAnswer (m .outcome .answer); buffer = m .buffer })
+replied m = toSender (sender (m .call)) (λ s. answered m)
+
+-- "It holds while elapsed time is short of its top": after a call
+abbrev pub ShortOfTop : Made → Type 0
+ShortOfTop m = view (m .outcome .station) .timer .now < elapsedTop
 
 abbrev pub IndependentRequesters : Type 0
 IndependentRequesters =
-    (i : List ℕ) (l : List Address) (o : Outcome) (ms : List Made) (g : Station) → SetUp i l o → Chain (o .station) ms g
+    (i : List ℕ) (l : List Address) (o : Outcome) (ms : List Made) (g : Station) → SetUp i l o → Chain (o .station) ms g → All ShortOfTop ms
     → map replied ms ≡ freshAnswers standard i (from l) (setup standard i l .station) (map callOf ms)
+
+-- so it is in every chain of fewer calls than a turn has milliseconds
+abbrev pub IndependentShortChain : Type 0
+IndependentShortChain =
+    (i : List ℕ) (l : List Address) (o : Outcome) (ms : List Made) (g : Station) → SetUp i l o → Chain (o .station) ms g → length ms < turn
+    → map replied ms ≡ freshAnswers standard i (from l) (setup standard i l .station) (map callOf ms)
+
+-- ---- document 02 (c)
+
+-- "old and new answers agree as long as no age taken has reached a turn"
+abbrev pub AnswersAsBefore : Type 0
+AnswersAsBefore =
+    (i : List ℕ) (l : List Address) (o : Outcome) (ms : List Made) (g : Station) → SetUp i l o → Chain (o .station) ms g
+    → Always Young elapsedClock standard (setup standard i l .station) (map callOf ms)
+    → map answered ms ≡ replies counterClock standard (setup standard i l .station) (map callOf ms)
+
+-- "Premise: successive calls lie less than one turn apart": the station's time is then the true time since the first call
+abbrev pub TimeIsTrue : Type 0
+TimeIsTrue =
+    (i : List ℕ) (l : List Address) (o : Outcome) (ms : List Made) (g : Station) → SetUp i l o → Chain (o .station) ms g
+    → (t : ℕ) (ts : List ℕ) → LessThanTurnApart t ts → map readingOf (map callOf ms) ≡ map (λ u. u % turn) (t ∷ ts)
+    → view g .timer .now ≡ min elapsedTop (latest t ts - t)

@@ -8,6 +8,7 @@ use mathlib.Core.List.{List, [], _∷_}
 use mathlib.Core.Option.{Option, some}
 use lib.ListN.{length, take}
 use Rattle.laws.specs.Members.{Among, All}
+use Rattle.units.specs.Time.{elapsedSince}
 use Rattle.octets.specs.declared.numbers.Kind.{Kind}
 use Rattle.octets.specs.declared.numbers.Kind.the-variants.{Event, Diagnostic}
 use Rattle.octets.specs.Numbers.{successful}
@@ -16,6 +17,7 @@ use Rattle.octets.specs.Elements.{subelements}
 use Rattle.events.specs.declared.Entry.{Entry}
 use Rattle.events.specs.Loggings.{Logging, entryFor, EventLengths}
 use Rattle.model.specs.declared.Diagnostic.{Diagnostic as DiagnosticElement}
+use Rattle.model.specs.Clocks.{elapsedClock}
 use Rattle.model.specs.Model.{Capacities, Address, EventRequest, DiagnosticRequest, Requester, Station, Call, report, ofLength}
 use Rattle.model.specs.Requesters.{find}
 use Rattle.model.specs.Fill.{Piece}
@@ -36,7 +38,7 @@ pub data Gives {R : Type 0} (kind : Kind) (next : R → Option (Piece R)) : R �
 
 -- a requester's outstanding request of a kind has a dialog token and gives these elements
 pub data Chosen (g : Station) (r : Requester) : (kind : Kind) → ℕ → List (Content kind) → Type 0 where
-  events : {q q′ : EventRequest} {xs : List (Content Event)} → r .events ≡ some q → Gives Event (nextEvent (g .log)) q xs q′ → Chosen g r Event (q .dialog) xs
+  events : {q q′ : EventRequest} {xs : List (Content Event)} → r .events ≡ some q → Gives Event (nextEvent elapsedSince (g .log)) q xs q′ → Chosen g r Event (q .dialog) xs
   diagnostics : {q : DiagnosticRequest} {left : List DiagnosticElement} {xs : List (Content Diagnostic)} → r .diagnostics ≡ some q
       → Gives Diagnostic (nextDiagnostic (octetsOf (g .identity))) (q .elements) xs left → Chosen g r Diagnostic (q .dialog) xs
 
@@ -71,5 +73,6 @@ WellFormed cs = (x : Logging) → Among (loggingCall x) cs → EventLengths (x .
 abbrev pub StationRoundTrip : Type 0
 StationRoundTrip =
     (most : Capacities) (i : List ℕ) (l : List Address) (cs : List Call) → WellFormed cs → (t : ℕ) (a : Address) (kind : Kind) (b : List ℕ) (n : ℕ)
-    → let g = run most (setup most i l .station) cs in
-    step most g (report t a kind b) .answer ≡ ofLength n → RoundTrip i cs (tick t g) a kind n (step most g (report t a kind b) .buffer)
+    → let g = run elapsedClock most (setup most i l .station) cs in
+    step elapsedClock most g (report t a kind b) .answer ≡ ofLength n
+    → RoundTrip i cs (tick elapsedClock t g) a kind n (step elapsedClock most g (report t a kind b) .buffer)

@@ -13,6 +13,7 @@ ghost use mathlib.Core.List.{List, []};
 ghost use Prim.Native.Nat.{ℕ};
 ghost use Rattle.events.specs.Loggings.{transition, rsna, peerLink};
 ghost use Rattle.requesters.specs.Views.{viewAnswer};
+ghost use Rattle.model.specs.Clocks.{elapsedClock};
 ghost use Rattle.model.specs.Model.{standard, clock, logging, frame, report, roam, change};
 ghost use Rattle.model.specs.Stations.{setup, step};
 ghost use Rattle.octets.specs.Numbers.{kindOf};
@@ -73,7 +74,7 @@ pub extern "C" fn dultxibe_setup(identity: &[u8], list: &[[u8; 6]]) -> Outcome
 // A bare clock reading.
 #[no_mangle]
 pub extern "C" fn dultxibe_tick(g: Station, reading: u32) -> Outcome
-    ensures { λ r. ⌜ viewed r [] ≡ numbered (step standard (view g) (clock reading)) ⌝ }
+    ensures { λ r. ⌜ viewed r [] ≡ numbered (step elapsedClock standard (view g) (clock reading)) ⌝ }
 {
     outcome_of(g.tick(Milliseconds(reading)))
 }
@@ -81,7 +82,7 @@ pub extern "C" fn dultxibe_tick(g: Station, reading: u32) -> Outcome
 // Logs a transition, which the reading ends.
 #[no_mangle]
 pub extern "C" fn dultxibe_log_transition(g: Station, reading: u32, t: Transition) -> Outcome
-    ensures { λ r. ⌜ viewed r [] ≡ numbered (step standard (view g) (logging reading (transition t))) ⌝ }
+    ensures { λ r. ⌜ viewed r [] ≡ numbered (step elapsedClock standard (view g) (logging reading (transition t))) ⌝ }
 {
     outcome_of(g.log_transition(Milliseconds(reading), t))
 }
@@ -89,7 +90,7 @@ pub extern "C" fn dultxibe_log_transition(g: Station, reading: u32, t: Transitio
 // Logs an RSNA event, with its RSN element.
 #[no_mangle]
 pub extern "C" fn dultxibe_log_rsna(g: Station, reading: u32, e: RsnaEvent, rsn: &[u8]) -> Outcome
-    ensures { λ r. ⌜ viewed r [] ≡ numbered (step standard (view g) (logging reading (rsna e (now (rsn .entry))))) ⌝ }
+    ensures { λ r. ⌜ viewed r [] ≡ numbered (step elapsedClock standard (view g) (logging reading (rsna e (now (rsn .entry))))) ⌝ }
 {
     outcome_of(g.log_rsna(Milliseconds(reading), e, rsn))
 }
@@ -97,7 +98,7 @@ pub extern "C" fn dultxibe_log_rsna(g: Station, reading: u32, e: RsnaEvent, rsn:
 // Logs a peer-to-peer link event.
 #[no_mangle]
 pub extern "C" fn dultxibe_log_peer_link(g: Station, reading: u32, e: PeerLink) -> Outcome
-    ensures { λ r. ⌜ viewed r [] ≡ numbered (step standard (view g) (logging reading (peerLink e))) ⌝ }
+    ensures { λ r. ⌜ viewed r [] ≡ numbered (step elapsedClock standard (view g) (logging reading (peerLink e))) ⌝ }
 {
     outcome_of(g.log_peer_link(Milliseconds(reading), e))
 }
@@ -111,7 +112,7 @@ pub extern "C" fn dultxibe_frame(
     source: &[u8; 6],
     o: &[u8],
 ) -> Outcome
-    ensures { λ r. ⌜ viewed r [] ≡ numbered (step standard (view g) (frame reading (now (destination .entry)) (now (source .entry)) (now (o .entry)))) ⌝ }
+    ensures { λ r. ⌜ viewed r [] ≡ numbered (step elapsedClock standard (view g) (frame reading (now (destination .entry)) (now (source .entry)) (now (o .entry)))) ⌝ }
 {
     outcome_of(g.take_frame(Milliseconds(reading), *destination, *source, o))
 }
@@ -125,7 +126,7 @@ pub extern "C" fn dultxibe_report(
     kind: u8,
     buf: &mut [u8],
 ) -> Outcome
-    ensures { λ r. ⌜ viewed r (now (buf .exit)) ≡ numbered (step standard (view g) (report reading (now (requester .entry)) (kindOf kind) (now (buf .entry)))) ⌝ }
+    ensures { λ r. ⌜ viewed r (now (buf .exit)) ≡ numbered (step elapsedClock standard (view g) (report reading (now (requester .entry)) (kindOf kind) (now (buf .entry)))) ⌝ }
 {
     outcome_of(g.report(Milliseconds(reading), *requester, kind_of(kind), buf))
 }
@@ -133,7 +134,7 @@ pub extern "C" fn dultxibe_report(
 // A move inside the network.
 #[no_mangle]
 pub extern "C" fn dultxibe_roam(g: Station, reading: u32, list: &[[u8; 6]]) -> Outcome
-    ensures { λ r. ⌜ viewed r [] ≡ numbered (step standard (view g) (roam reading (now (list .entry)))) ⌝ }
+    ensures { λ r. ⌜ viewed r [] ≡ numbered (step elapsedClock standard (view g) (roam reading (now (list .entry)))) ⌝ }
 {
     outcome_of(g.roam(Milliseconds(reading), list))
 }
@@ -141,7 +142,7 @@ pub extern "C" fn dultxibe_roam(g: Station, reading: u32, list: &[[u8; 6]]) -> O
 // A network change.
 #[no_mangle]
 pub extern "C" fn dultxibe_change_network(g: Station, reading: u32, list: &[[u8; 6]]) -> Outcome
-    ensures { λ r. ⌜ viewed r [] ≡ numbered (step standard (view g) (change reading (now (list .entry)))) ⌝ }
+    ensures { λ r. ⌜ viewed r [] ≡ numbered (step elapsedClock standard (view g) (change reading (now (list .entry)))) ⌝ }
 {
     outcome_of(g.change_network(Milliseconds(reading), list))
 }

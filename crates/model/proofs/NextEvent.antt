@@ -20,9 +20,9 @@ use Rattle.model.specs.Model.{EventRequest}
 use Rattle.model.specs.Events.{nextEventPlace}
 use Rattle.model.specs.NextEvent.{Eligible, OldestMatch, NextEvent}
 
-module _ (log : List Entry) (r : EventRequest) (x : Element) where
+module _ (since : ℕ → ℕ → ℕ) (log : List Entry) (r : EventRequest) (x : Element) where
   abbrev test : ℕ → Bool
-  test = meets log (x .ty) (x .filter)
+  test = meets since log (x .ty) (x .filter)
 
   abbrev end : ℕ
   end = min (r .mark) (length log)
@@ -30,7 +30,7 @@ module _ (log : List Entry) (r : EventRequest) (x : Element) where
   eligible : (q : ℕ) → r .start ≤ q → q < end → Eligible log r q
   eligible q a b = record { logged = omega (arith, b); accepted = omega (arith, b); later = a }
 
-  first-match : (p : ℕ) → r .given < x .limit → First test (r .start) end p → OldestMatch log r x p
+  first-match : (p : ℕ) → r .given < x .limit → First test (r .start) end p → OldestMatch since log r x p
   first-match p l f = record {
     limit = l;
     eligible = eligible p (f .after) (f .within);
@@ -38,34 +38,34 @@ module _ (log : List Entry) (r : EventRequest) (x : Element) where
     oldest = λ q e h. f .first q (e .later) h;
   }
 
-  given : (p : ℕ) → nextEventPlace log r x ≡ some p → OldestMatch log r x p
+  given : (p : ℕ) → nextEventPlace since log r x ≡ some p → OldestMatch since log r x p
   unfolding nextEventPlace
   given p =
-      either (λ (o : Option ℕ). o ≡ some p → OldestMatch log r x p) _ _ _
+      either (λ (o : Option ℕ). o ≡ some p → OldestMatch since log r x p) _ _ _
       (λ l e. first-match p (ltb-true (r .given) (x .limit) l) (next-first test (r .start) end p e)) (λ _ e. never cc)
 
   -- below the limit the choice is that of the places
-  below : r .given < x .limit → nextEventPlace log r x ≡ nextPlace test (r .start) end
+  below : r .given < x .limit → nextEventPlace since log r x ≡ nextPlace test (r .start) end
   unfolding nextEventPlace if_then_else_
   below l = rw (lt-ltb (r .given) (x .limit) l)
 
-  none-left : nextEventPlace log r x ≡ none → r .given < x .limit → (q : ℕ) → Eligible log r q → test q ≡ false
+  none-left : nextEventPlace since log r x ≡ none → r .given < x .limit → (q : ℕ) → Eligible log r q → test q ≡ false
   none-left e l q h = next-none-passes test (r .start) end q (sym (below l) ∙ e) (h .later) (omega (arith, h .accepted, h .logged))
 
-  over : x .limit ≤ r .given → nextEventPlace log r x ≡ none
+  over : x .limit ≤ r .given → nextEventPlace since log r x ≡ none
   unfolding nextEventPlace if_then_else_
   over h = rw (le-ltb (r .given) (x .limit) h)
 
-  unmatched : ((q : ℕ) → Eligible log r q → test q ≡ false) → nextEventPlace log r x ≡ none
+  unmatched : ((q : ℕ) → Eligible log r q → test q ≡ false) → nextEventPlace since log r x ≡ none
   unfolding nextEventPlace
   unmatched f =
       either (λ (o : Option ℕ). o ≡ none) _ _ _ (λ _. next-none test (r .start) end (λ q a b. f q (eligible q a b))) (λ _. refl)
 
   -- two oldest matches are one
-  one : (p q : ℕ) → OldestMatch log r x p → OldestMatch log r x q → q < p → false ≡ true
+  one : (p q : ℕ) → OldestMatch since log r x p → OldestMatch since log r x q → q < p → false ≡ true
   one p q m n h = sym (m .oldest q (n .eligible) h) ∙ n .matches
 
-  same-match : (p q : ℕ) → OldestMatch log r x p → OldestMatch log r x q → q ≡ p
+  same-match : (p q : ℕ) → OldestMatch since log r x p → OldestMatch since log r x q → q ≡ p
   same-match p q m n = by (ltb q p) refl (ltb p q) refl
     where
       by : (a : Bool) → ltb q p ≡ a → (b : Bool) → ltb p q ≡ b → q ≡ p
@@ -73,10 +73,10 @@ module _ (log : List Entry) (r : EventRequest) (x : Element) where
       by false a true b = never (one q p n m (ltb-true p q b))
       by false a false b = omega (arith, ltb-false q p a, ltb-false p q b)
 
-  only : (p : ℕ) → OldestMatch log r x p → nextEventPlace log r x ≡ some p
-  only p m = by (nextEventPlace log r x) refl
+  only : (p : ℕ) → OldestMatch since log r x p → nextEventPlace since log r x ≡ some p
+  only p m = by (nextEventPlace since log r x) refl
     where
-      by : (o : Option ℕ) → nextEventPlace log r x ≡ o → o ≡ some p
+      by : (o : Option ℕ) → nextEventPlace since log r x ≡ o → o ≡ some p
       by none e = never (sym (none-left e (m .limit) p (m .eligible)) ∙ m .matches)
       by (some q) e = rw (same-match p q m (given q e))
 

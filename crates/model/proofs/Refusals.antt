@@ -75,7 +75,7 @@ module _ (causes : List ℕ) (a : Address) (serve : Requester → Served) (b : L
       record {
         refusal = p .refusal;
         state =
-            ap (λ (x : List Requester). record { identity = g .identity; log = g .log; requesters = x })
+            ap (λ (x : List Requester). record { timer = g .timer; identity = g .identity; log = g .log; requesters = x })
             (ap (λ (y : Requester). put a y (g .requesters)) (p .state) ∙ put-found a r (g .requesters) e);
         buffer = p .buffer;
       }
@@ -90,27 +90,27 @@ read-by n o z =
     let m = among-behind (request-listed n o) (eqb-false _ 0 z) in
     record { number = later (later m); place = λ past. absurd (omega (arith, past, among-at-most noElement _ requestCauses refl m)) }
 
-take-left : (n t : ℕ) (log : List Entry) (o : List ℕ) (r : Requester) → Left frameCauses r [] (takeRequest t log (readRequest n o) r)
+take-left : (n now : ℕ) (log : List Entry) (o : List ℕ) (r : Requester) → Left frameCauses r [] (takeRequest now log (readRequest n o) r)
 unfolding takeRequest
-take-left n t log o r = either (Left frameCauses r []) _ _ _ (λ h. by-refusal frameCauses r [] _ (read-by n o (not-true _ h))) (λ _ q e. never cc)
+take-left n now log o r = either (Left frameCauses r []) _ _ _ (λ h. by-refusal frameCauses r [] _ (read-by n o (not-true _ h))) (λ _ q e. never cc)
 
 -- ---- reports
 
 abbrev reportCauses : List ℕ
 reportCauses = unknownRequester ∷ shortBuffer ∷ []
 
-module _ (b : List ℕ) (r : Requester) where
+module _ (since : ℕ → ℕ → ℕ) (b : List ℕ) (r : Requester) where
   outstanding-left : {Q : Type 0} (give : Q → Served) → ((q : Q) → Left reportCauses r b (give q)) → (o : Option Q) → Left reportCauses r b (ifOutstanding give r b o)
   unfolding ifOutstanding
   outstanding-left give f none = λ q e. never cc
   outstanding-left give f (some x) = f x
 
-  kind-left : (i : Option (List ℕ)) (log : List Entry) (k : Kind) → Left reportCauses r b (giveKind i log b r k)
+  kind-left : (i : Option (List ℕ)) (log : List Entry) (k : Kind) → Left reportCauses r b (giveKind since i log b r k)
   unfolding giveKind giveEvents giveDiagnostics
-  kind-left i log Event = outstanding-left (giveEvents log b r) (λ x q e. never cc) (r .events)
+  kind-left i log Event = outstanding-left (giveEvents since log b r) (λ x q e. never cc) (r .events)
   kind-left i log Diagnostic = outstanding-left (giveDiagnostics (octetsOf i) b r) (λ x q e. never cc) (r .diagnostics)
 
-  report-left : (i : Option (List ℕ)) (log : List Entry) (k : Kind) → Left reportCauses r b (giveReport i log k b r)
+  report-left : (i : Option (List ℕ)) (log : List Entry) (k : Kind) → Left reportCauses r b (giveReport since i log k b r)
   unfolding giveReport
   report-left i log k = either (Left reportCauses r b) _ _ _ (λ _. by-cause reportCauses r b shortBuffer (later first)) (λ _. kind-left i log k)
 
@@ -147,22 +147,22 @@ log-kept most t x g =
 
 -- ---- every call
 
-act-kept : (most : Capacities) (c : Call) (g : Station) → Kept (causesOf c) g (lentBuffer c) (act most c g)
+act-kept : (since : ℕ → ℕ → ℕ) (most : Capacities) (c : Call) (g : Station) → Kept (causesOf c) g (lentBuffer c) (act since most c g)
 unfolding act causesOf lentBuffer requestCall frameCall reportCall serveListed
-act-kept most (clock t) g = λ q e. never cc
-act-kept most (logging t e) g = log-kept most t e g
-act-kept most (frame t d a o) g =
+act-kept since most (clock t) g = λ q e. never cc
+act-kept since most (logging t e) g = log-kept most t e g
+act-kept since most (frame t d a o) g =
     either (Kept frameCauses g []) _ _ _ (λ _. by-cause frameCauses g [] groupDestination first)
-    (λ _. found-kept frameCauses a (takeRequest t (g .log) (readRequest (most .elements) o)) [] g (later first) (take-left (most .elements) t (g .log) o) (find a (g .requesters)) refl)
-act-kept most (report t a k b) g =
-    found-kept reportCauses a (giveReport (g .identity) (g .log) k b) b g first (λ r. report-left b r (g .identity) (g .log) k) (find a (g .requesters)) refl
-act-kept most (roam t l) g = rename-kept most (g .log) l g
-act-kept most (change t l) g = rename-kept most [] l g
+    (λ _. found-kept frameCauses a (takeRequest (g .timer .now) (g .log) (readRequest (most .elements) o)) [] g (later first) (take-left (most .elements) (g .timer .now) (g .log) o) (find a (g .requesters)) refl)
+act-kept since most (report t a k b) g =
+    found-kept reportCauses a (giveReport since (g .identity) (g .log) k b) b g first (λ r. report-left since b r (g .identity) (g .log) k) (find a (g .requesters)) refl
+act-kept since most (roam t l) g = rename-kept most (g .log) l g
+act-kept since most (change t l) g = rename-kept most [] l g
 
 pub refused-call : RefusedCall
 unfolding step act readingOf
-refused-call most g c r h =
-    let p = act-kept most c (tick (readingOf c) g) r h in
+refused-call k most g c r h =
+    let p = act-kept (k .since) most c (tick k (readingOf c) g) r h in
     record { refusal = p .refusal; station = p .state; buffer = p .buffer }
 
 -- ---- setup

@@ -1,4 +1,4 @@
--- What a station is for one sender: its identity, its log and the sender's own slot. Every call makes of it what it makes of the station,
+-- What a station is for one sender: its timer, its identity, its log and the sender's own slot. Every call makes of it what it makes of the station,
 -- another sender's call no more than a bare clock reading, and the reply to a sender follows from it.
 -- Assumes nothing.
 use Prim.Native.Nat.{ℕ}
@@ -16,12 +16,13 @@ use Rattle.octets.specs.Refusals.{groupDestination, unknownRequester}
 use Rattle.octets.proofs.AddressLaws.{same-true}
 use Rattle.requests.specs.declared.Request.{Request}
 use Rattle.events.specs.declared.Entry.{Entry}
+use Rattle.model.specs.Clocks.{Timer, Clock, advanced}
 use Rattle.model.specs.Model.{Capacities, Address, Requester, Station, Call, clock, logging, frame, report, roam, change, accepted, Result}
 use Rattle.requests.specs.Requests.{readRequest}
 use Rattle.events.specs.Loggings.{LoggedEvent, entryOf}
 use Rattle.events.specs.Log.{pushed}
 use Rattle.model.specs.Requesters.{badList, newRequester, find, put}
-use Rattle.model.specs.Stations.{refusedFor, tickRequester, tick, lowerRequester, logRequester, logEntry, logCause, logCall, Served, withRequester, serveFound, serveListed, takeKind, takeRequest, requestCall, frameCall, giveEvents, giveDiagnostics, ifOutstanding, octetsOf, giveKind, giveReport, reportCall, renameWith, rename, act, readingOf, step}
+use Rattle.model.specs.Stations.{refusedFor, timed, tickRequester, withoutLate, tick, lowerRequester, logRequester, logEntry, logCause, logCall, Served, withRequester, serveFound, serveListed, takeKind, takeRequest, requestCall, frameCall, giveEvents, giveDiagnostics, ifOutstanding, octetsOf, giveKind, giveReport, reportCall, renameWith, rename, act, readingOf, step}
 use Rattle.model.specs.Runs.{sender, Reply, reply, toSender}
 use Rattle.laws.proofs.Choice.{apply-if}
 use Rattle.octets.proofs.AddressLaws.{same-sym}
@@ -33,7 +34,7 @@ use Rattle.model.specs.Independence.{quietFor, quiet}
 abbrev Keeps : (Requester → Requester) → Type 0
 Keeps f = (r : Requester) → f r .address ≡ r .address
 
-find-map : (f : Requester → Requester) → Keeps f → (s : Address) (rs : List Requester) → find s (map f rs) ≡ Option·map f (find s rs)
+pub find-map : (f : Requester → Requester) → Keeps f → (s : Address) (rs : List Requester) → find s (map f rs) ≡ Option·map f (find s rs)
 unfolding find
 find-map f k s [] = refl
 find-map f k s (r ∷ rs) =
@@ -72,72 +73,75 @@ module _ (a : Address) (x r : Requester) (keeps : x .address ≡ r .address) whe
 -- ---- what a sender sees
 
 pub record Seen : Type 0 where
+  pub timer : Timer
   pub identity : Option (List ℕ)
   pub log : List Entry
   pub slot : Option Requester
 
 pub seen : Address → Station → Seen
-seen s g = record { identity = g .identity; log = g .log; slot = find s (g .requesters) }
+seen s g = record { timer = g .timer; identity = g .identity; log = g .log; slot = find s (g .requesters) }
 
 abbrev withSlot : Seen → Option Requester → Seen
-withSlot v o = record { identity = v .identity; log = v .log; slot = o }
+withSlot v o = record { timer = v .timer; identity = v .identity; log = v .log; slot = o }
 
 abbrev onSlot : (Requester → Requester) → Seen → Seen
 onSlot f v = withSlot v (Option·map f (v .slot))
 
-tickSeen : ℕ → Seen → Seen
-tickSeen reading v = onSlot (tickRequester reading) v
+tickSeen : Clock → ℕ → Seen → Seen
+tickSeen k reading v =
+    let t = advanced k (v .timer) reading in
+    record { timer = t; identity = v .identity; log = v .log; slot = Option·map (tickRequester (k .since) (t .now)) (v .slot) }
 
 logSeen : Capacities → ℕ → LoggedEvent → Seen → Seen
 logSeen most reading e v =
     if not (eqb (logCause e) 0) then v
-    else record { identity = v .identity; log = pushed (most .events) (v .log) (entryOf reading e); slot = Option·map (logRequester most (v .log)) (v .slot) }
+    else record { timer = v .timer; identity = v .identity; log = pushed (most .events) (v .log) (entryOf (v .timer .now) reading e); slot = Option·map (logRequester most (v .log)) (v .slot) }
 
 servedSeen : Address → Address → (Requester → Served) → Seen → Seen
 servedSeen s a serve v = if same a s then onSlot (λ r. serve r .requester) v else v
 
 renamedSeen : Address → List Entry → List Address → Seen → Option (List ℕ) → Seen
 renamedSeen s log l v none = v
-renamedSeen s log l v (some i) = record { identity = some i; log = log; slot = find s (map newRequester l) }
+renamedSeen s log l v (some i) = record { timer = v .timer; identity = some i; log = log; slot = find s (map newRequester l) }
 
 renameSeen : Capacities → Address → List Entry → List Address → Seen → Seen
 renameSeen most s log l v = if badList (most .requesters) l then v else renamedSeen s log l v (v .identity)
 
 -- what a call makes of it, the late diagnostics dropped
-actSeen : Capacities → Address → Call → Seen → Seen
-actSeen most s (clock t) v = v
-actSeen most s (logging t e) v = logSeen most t e v
-actSeen most s (frame t d a o) v = if isGroup d then v else servedSeen s a (takeRequest t (v .log) (readRequest (most .elements) o)) v
-actSeen most s (report t a kind b) v = servedSeen s a (giveReport (v .identity) (v .log) kind b) v
-actSeen most s (roam t l) v = renameSeen most s (v .log) l v
-actSeen most s (change t l) v = renameSeen most s [] l v
+actSeen : Clock → Capacities → Address → Call → Seen → Seen
+actSeen k most s (clock t) v = v
+actSeen k most s (logging t e) v = logSeen most t e v
+actSeen k most s (frame t d a o) v = if isGroup d then v else servedSeen s a (takeRequest (v .timer .now) (v .log) (readRequest (most .elements) o)) v
+actSeen k most s (report t a kind b) v = servedSeen s a (giveReport (k .since) (v .identity) (v .log) kind b) v
+actSeen k most s (roam t l) v = renameSeen most s (v .log) l v
+actSeen k most s (change t l) v = renameSeen most s [] l v
 
-pub stepSeen : Capacities → Address → Call → Seen → Seen
-stepSeen most s c v = actSeen most s c (tickSeen (readingOf c) v)
+pub stepSeen : Clock → Capacities → Address → Call → Seen → Seen
+stepSeen k most s c v = actSeen k most s c (tickSeen k (readingOf c) v)
 
 -- ---- every piece keeps the address
 
-tick-keeps : (reading : ℕ) → Keeps (tickRequester reading)
+tick-keeps : (since : ℕ → ℕ → ℕ) (now : ℕ) → Keeps (tickRequester since now)
 unfolding tickRequester
-tick-keeps reading r = refl
+tick-keeps since now r = refl
 
 log-keeps : (most : Capacities) (log : List Entry) → Keeps (logRequester most log)
 unfolding logRequester lowerRequester
 log-keeps most log r = either (λ (x : Requester). x .address ≡ r .address) _ _ _ (λ _. refl) (λ _. refl)
 
-kind-keeps : (reading : ℕ) (log : List Entry) (q : Request) (r : Requester) (k : Kind) → takeKind reading log q r k .address ≡ r .address
+kind-keeps : (now : ℕ) (log : List Entry) (q : Request) (r : Requester) (kind : Kind) → takeKind now log q r kind .address ≡ r .address
 unfolding takeKind
-kind-keeps reading log q r Event = refl
-kind-keeps reading log q r Diagnostic = refl
+kind-keeps now log q r Event = refl
+kind-keeps now log q r Diagnostic = refl
 
 -- a call that keeps the address of its requester
 abbrev ServeKeeps : (Requester → Served) → Type 0
 ServeKeeps serve = (r : Requester) → serve r .requester .address ≡ r .address
 
-take-keeps : (reading : ℕ) (log : List Entry) (q : Request) → ServeKeeps (takeRequest reading log q)
+take-keeps : (now : ℕ) (log : List Entry) (q : Request) → ServeKeeps (takeRequest now log q)
 unfolding takeRequest
-take-keeps reading log q r =
-    either (λ (x : Served). x .requester .address ≡ r .address) _ _ _ (λ _. refl) (λ _. kind-keeps reading log q r (q .kind))
+take-keeps now log q r =
+    either (λ (x : Served). x .requester .address ≡ r .address) _ _ _ (λ _. refl) (λ _. kind-keeps now log q r (q .kind))
 
 outstanding-keeps : {Q : Type 0} (give : Q → Served) (r : Requester) (b : List ℕ) → ((q : Q) → give q .requester .address ≡ r .address)
     → (o : Option Q) → ifOutstanding give r b o .requester .address ≡ r .address
@@ -145,27 +149,30 @@ unfolding ifOutstanding
 outstanding-keeps give r b k none = refl
 outstanding-keeps give r b k (some q) = k q
 
-give-kind-keeps : (i : Option (List ℕ)) (log : List Entry) (b : List ℕ) (r : Requester) (k : Kind) → giveKind i log b r k .requester .address ≡ r .address
+give-kind-keeps : (since : ℕ → ℕ → ℕ) (i : Option (List ℕ)) (log : List Entry) (b : List ℕ) (r : Requester) (kind : Kind) → giveKind since i log b r kind .requester .address ≡ r .address
 unfolding giveKind giveEvents giveDiagnostics
-give-kind-keeps i log b r Event = outstanding-keeps (giveEvents log b r) r b (λ q. refl) (r .events)
-give-kind-keeps i log b r Diagnostic = outstanding-keeps (giveDiagnostics (octetsOf i) b r) r b (λ q. refl) (r .diagnostics)
+give-kind-keeps since i log b r Event = outstanding-keeps (giveEvents since log b r) r b (λ q. refl) (r .events)
+give-kind-keeps since i log b r Diagnostic = outstanding-keeps (giveDiagnostics (octetsOf i) b r) r b (λ q. refl) (r .diagnostics)
 
-give-keeps : (i : Option (List ℕ)) (log : List Entry) (k : Kind) (b : List ℕ) → ServeKeeps (giveReport i log k b)
+give-keeps : (since : ℕ → ℕ → ℕ) (i : Option (List ℕ)) (log : List Entry) (kind : Kind) (b : List ℕ) → ServeKeeps (giveReport since i log kind b)
 unfolding giveReport
-give-keeps i log k b r =
-    either (λ (x : Served). x .requester .address ≡ r .address) _ _ _ (λ _. refl) (λ _. give-kind-keeps i log b r k)
+give-keeps since i log kind b r =
+    either (λ (x : Served). x .requester .address ≡ r .address) _ _ _ (λ _. refl) (λ _. give-kind-keeps since i log b r kind)
 
 -- ---- a call makes of what is seen what it makes of the station
 
-seen-tick : (s : Address) (reading : ℕ) (g : Station) → seen s (tick reading g) ≡ tickSeen reading (seen s g)
-unfolding seen tick tickSeen
-seen-tick s reading g = ap (withSlot (seen s g)) (find-map (tickRequester reading) (tick-keeps reading) s (g .requesters))
+seen-tick : (k : Clock) (s : Address) (reading : ℕ) (g : Station) → seen s (tick k reading g) ≡ tickSeen k reading (seen s g)
+unfolding seen withoutLate timed tickSeen
+seen-tick k s reading g =
+    let t = advanced k (g .timer) reading in
+    ap (λ (o : Option Requester). record { timer = t; identity = g .identity; log = g .log; slot = o })
+    (find-map (tickRequester (k .since) (t .now)) (tick-keeps (k .since) (t .now)) s (g .requesters))
 
 seen-log : (most : Capacities) (s : Address) (reading : ℕ) (e : LoggedEvent) (g : Station) → seen s (logCall most reading e g .station) ≡ logSeen most reading e (seen s g)
 unfolding seen logCall logEntry logSeen
 seen-log most s reading e g =
     apply-if (λ (x : Result). seen s (x .station)) (not (eqb (logCause e) 0)) _ _
-    ∙ ap (λ (o : Option Requester). if not (eqb (logCause e) 0) then seen s g else record { identity = g .identity; log = pushed (most .events) (g .log) (entryOf reading e); slot = o })
+    ∙ ap (λ (o : Option Requester). if not (eqb (logCause e) 0) then seen s g else record { timer = g .timer; identity = g .identity; log = pushed (most .events) (g .log) (entryOf (g .timer .now) reading e); slot = o })
     (find-map (logRequester most (g .log)) (log-keeps most (g .log)) s (g .requesters))
 
 module _ (s a : Address) (serve : Requester → Served) (b : List ℕ) (g : Station) (keeps : ServeKeeps serve) where
@@ -201,21 +208,21 @@ seen-rename most s log l g =
     apply-if (λ (x : Result). seen s (x .station)) (badList (most .requesters) l) _ _
     ∙ ap (λ (v : Seen). if badList (most .requesters) l then seen s g else v) (seen-renamed s log l g (g .identity))
 
-seen-act : (most : Capacities) (s : Address) (c : Call) (g : Station) → seen s (act most c g .station) ≡ actSeen most s c (seen s g)
+seen-act : (k : Clock) (most : Capacities) (s : Address) (c : Call) (g : Station) → seen s (act (k .since) most c g .station) ≡ actSeen k most s c (seen s g)
 unfolding act actSeen seen requestCall frameCall reportCall
-seen-act most s (clock t) g = refl
-seen-act most s (logging t e) g = seen-log most s t e g
-seen-act most s (frame t d a o) g =
+seen-act k most s (clock t) g = refl
+seen-act k most s (logging t e) g = seen-log most s t e g
+seen-act k most s (frame t d a o) g =
     apply-if (λ (x : Result). seen s (x .station)) (isGroup d) _ _
     ∙ ap (λ (v : Seen). if isGroup d then seen s g else v)
-    (seen-served s a (takeRequest t (g .log) (readRequest (most .elements) o)) [] g (take-keeps t (g .log) (readRequest (most .elements) o)))
-seen-act most s (report t a kind b) g = seen-served s a (giveReport (g .identity) (g .log) kind b) b g (give-keeps (g .identity) (g .log) kind b)
-seen-act most s (roam t l) g = seen-rename most s (g .log) l g
-seen-act most s (change t l) g = seen-rename most s [] l g
+    (seen-served s a (takeRequest (g .timer .now) (g .log) (readRequest (most .elements) o)) [] g (take-keeps (g .timer .now) (g .log) (readRequest (most .elements) o)))
+seen-act k most s (report t a kind b) g = seen-served s a (giveReport (k .since) (g .identity) (g .log) kind b) b g (give-keeps (k .since) (g .identity) (g .log) kind b)
+seen-act k most s (roam t l) g = seen-rename most s (g .log) l g
+seen-act k most s (change t l) g = seen-rename most s [] l g
 
-pub seen-step : (most : Capacities) (s : Address) (c : Call) (g : Station) → seen s (step most g c .station) ≡ stepSeen most s c (seen s g)
+pub seen-step : (k : Clock) (most : Capacities) (s : Address) (c : Call) (g : Station) → seen s (step k most g c .station) ≡ stepSeen k most s c (seen s g)
 unfolding step stepSeen
-seen-step most s c g = seen-act most s c (tick (readingOf c) g) ∙ ap (actSeen most s c) (seen-tick s (readingOf c) g)
+seen-step k most s c g = seen-act k most s c (tick k (readingOf c) g) ∙ ap (actSeen k most s c) (seen-tick k s (readingOf c) g)
 
 -- ---- a call of another sender makes of it what a bare clock reading does
 
@@ -223,34 +230,34 @@ unserved : (s a : Address) (serve : Requester → Served) (v : Seen) → same a 
 unfolding servedSeen if_then_else_
 unserved s a serve v e = rw e
 
-pub quiet-step : (most : Capacities) (s : Address) (c : Call) (v : Seen) → stepSeen most s (quiet s c) v ≡ stepSeen most s c v
+pub quiet-step : (k : Clock) (most : Capacities) (s : Address) (c : Call) (v : Seen) → stepSeen k most s (quiet s c) v ≡ stepSeen k most s c v
 unfolding stepSeen sender quietFor actSeen readingOf if_then_else_
-quiet-step most s (clock t) v = refl
-quiet-step most s (logging t e) v = refl
-quiet-step most s (frame t d a o) v = go (same a s) refl (isGroup d)
+quiet-step k most s (clock t) v = refl
+quiet-step k most s (logging t e) v = refl
+quiet-step k most s (frame t d a o) v = go (same a s) refl (isGroup d)
   where
     w : Seen
-    w = tickSeen t v
+    w = tickSeen k t v
 
     serve : Requester → Served
-    serve = takeRequest t (w .log) (readRequest (most .elements) o)
+    serve = takeRequest (w .timer .now) (w .log) (readRequest (most .elements) o)
 
-    go : (b : Bool) → same a s ≡ b → (h : Bool) → stepSeen most s (if b then frame t d a o else clock t) v ≡ (if isGroup d then w else servedSeen s a serve w)
+    go : (b : Bool) → same a s ≡ b → (h : Bool) → stepSeen k most s (if b then frame t d a o else clock t) v ≡ (if isGroup d then w else servedSeen s a serve w)
     go true e h = refl
     go false e h = either (λ (x : Seen). w ≡ x) (isGroup d) w (servedSeen s a serve w) (λ _. refl) (λ _. sym (unserved s a serve w e))
-quiet-step most s (report t a kind b) v = go (same a s) refl
+quiet-step k most s (report t a kind b) v = go (same a s) refl
   where
     w : Seen
-    w = tickSeen t v
+    w = tickSeen k t v
 
     serve : Requester → Served
-    serve = giveReport (w .identity) (w .log) kind b
+    serve = giveReport (k .since) (w .identity) (w .log) kind b
 
-    go : (x : Bool) → same a s ≡ x → stepSeen most s (if x then report t a kind b else clock t) v ≡ servedSeen s a serve w
+    go : (x : Bool) → same a s ≡ x → stepSeen k most s (if x then report t a kind b else clock t) v ≡ servedSeen s a serve w
     go true e = refl
     go false e = sym (unserved s a serve w e)
-quiet-step most s (roam t l) v = refl
-quiet-step most s (change t l) v = refl
+quiet-step k most s (roam t l) v = refl
+quiet-step k most s (change t l) v = refl
 
 -- ---- the reply to a sender follows from what it sees
 
@@ -262,18 +269,18 @@ servedReply serve b none = record { answer = refusedFor unknownRequester; buffer
 servedReply serve b (some r) = record { answer = serve r .answer; buffer = serve r .buffer }
 
 -- of a call that has a sender
-seenReply : Capacities → Call → Seen → Reply
-seenReply most (frame t d a o) v =
+seenReply : Clock → Capacities → Call → Seen → Reply
+seenReply k most (frame t d a o) v =
     if isGroup d then record { answer = refusedFor groupDestination; buffer = [] }
-    else servedReply (takeRequest t (v .log) (readRequest (most .elements) o)) [] (v .slot)
-seenReply most (report t a kind b) v = servedReply (giveReport (v .identity) (v .log) kind b) b (v .slot)
-seenReply most (clock t) v = record { answer = accepted; buffer = [] }
-seenReply most (logging t e) v = record { answer = accepted; buffer = [] }
-seenReply most (roam t l) v = record { answer = accepted; buffer = [] }
-seenReply most (change t l) v = record { answer = accepted; buffer = [] }
+    else servedReply (takeRequest (v .timer .now) (v .log) (readRequest (most .elements) o)) [] (v .slot)
+seenReply k most (report t a kind b) v = servedReply (giveReport (k .since) (v .identity) (v .log) kind b) b (v .slot)
+seenReply k most (clock t) v = record { answer = accepted; buffer = [] }
+seenReply k most (logging t e) v = record { answer = accepted; buffer = [] }
+seenReply k most (roam t l) v = record { answer = accepted; buffer = [] }
+seenReply k most (change t l) v = record { answer = accepted; buffer = [] }
 
-pub stepReply : Capacities → Call → Seen → Reply
-stepReply most c v = seenReply most c (tickSeen (readingOf c) v)
+pub stepReply : Clock → Capacities → Call → Seen → Reply
+stepReply k most c v = seenReply k most c (tickSeen k (readingOf c) v)
 
 reply-found : (a : Address) (serve : Requester → Served) (b : List ℕ) (g : Station) (o : Option Requester)
     → replyOf (serveFound a serve b g o) ≡ servedReply serve b o
@@ -281,25 +288,25 @@ unfolding serveFound servedReply
 reply-found a serve b g none = refl
 reply-found a serve b g (some r) = refl
 
-module _ (most : Capacities) (t : ℕ) (a : Address) where
-  frame-reply : (d : Address) (o : List ℕ) (g : Station) → replyOf (act most (frame t d a o) g) ≡ seenReply most (frame t d a o) (seen a g)
+module _ (k : Clock) (most : Capacities) (t : ℕ) (a : Address) where
+  frame-reply : (d : Address) (o : List ℕ) (g : Station) → replyOf (act (k .since) most (frame t d a o) g) ≡ seenReply k most (frame t d a o) (seen a g)
   unfolding act requestCall frameCall serveListed seenReply seen
   frame-reply d o g =
       apply-if replyOf (isGroup d) _ _
       ∙ ap (λ (x : Reply). if isGroup d then record { answer = refusedFor groupDestination; buffer = [] } else x)
-      (reply-found a (takeRequest t (g .log) (readRequest (most .elements) o)) [] g (find a (g .requesters)))
+      (reply-found a (takeRequest (g .timer .now) (g .log) (readRequest (most .elements) o)) [] g (find a (g .requesters)))
 
-  report-reply : (kind : Kind) (b : List ℕ) (g : Station) → replyOf (act most (report t a kind b) g) ≡ seenReply most (report t a kind b) (seen a g)
+  report-reply : (kind : Kind) (b : List ℕ) (g : Station) → replyOf (act (k .since) most (report t a kind b) g) ≡ seenReply k most (report t a kind b) (seen a g)
   unfolding act reportCall serveListed seenReply seen
-  report-reply kind b g = reply-found a (giveReport (g .identity) (g .log) kind b) b g (find a (g .requesters))
+  report-reply kind b g = reply-found a (giveReport (k .since) (g .identity) (g .log) kind b) b g (find a (g .requesters))
 
-pub seen-reply : (most : Capacities) (c : Call) (g : Address → Station) → toSender (sender c) (λ s. reply most (g s) c) ≡ toSender (sender c) (λ s. stepReply most c (seen s (g s)))
+pub seen-reply : (k : Clock) (most : Capacities) (c : Call) (g : Address → Station) → toSender (sender c) (λ s. reply k most (g s) c) ≡ toSender (sender c) (λ s. stepReply k most c (seen s (g s)))
 unfolding reply step sender toSender readingOf stepReply
-seen-reply most (clock t) g = refl
-seen-reply most (logging t e) g = refl
-seen-reply most (frame t d a o) g =
-    ap (λ (x : Reply). some x) (frame-reply most t a d o (tick t (g a)) ∙ ap (seenReply most (frame t d a o)) (seen-tick a t (g a)))
-seen-reply most (report t a kind b) g =
-    ap (λ (x : Reply). some x) (report-reply most t a kind b (tick t (g a)) ∙ ap (seenReply most (report t a kind b)) (seen-tick a t (g a)))
-seen-reply most (roam t l) g = refl
-seen-reply most (change t l) g = refl
+seen-reply k most (clock t) g = refl
+seen-reply k most (logging t e) g = refl
+seen-reply k most (frame t d a o) g =
+    ap (λ (x : Reply). some x) (frame-reply k most t a d o (tick k t (g a)) ∙ ap (seenReply k most (frame t d a o)) (seen-tick k a t (g a)))
+seen-reply k most (report t a kind b) g =
+    ap (λ (x : Reply). some x) (report-reply k most t a kind b (tick k t (g a)) ∙ ap (seenReply k most (report t a kind b)) (seen-tick k a t (g a)))
+seen-reply k most (roam t l) g = refl
+seen-reply k most (change t l) g = refl

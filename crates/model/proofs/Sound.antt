@@ -17,9 +17,10 @@ use Rattle.events.specs.declared.Entry.{Entry}
 use Rattle.events.specs.Log.{pushed}
 use Rattle.events.specs.Loggings.{LoggedEvent, Logging, entryFor}
 use Rattle.identities.specs.Identity.{goodIdentity}
+use Rattle.model.specs.Clocks.{Timer, Clock}
 use Rattle.model.specs.Model.{Capacities, Address, Requester, Station, Call, clock, logging, frame, report, roam, change, Result}
 use Rattle.model.specs.Requesters.{newRequester, find, put}
-use Rattle.model.specs.Stations.{nobody, newStation, setup, tickRequester, tick, logRequester, logEntry, logCause, logCall, Served, withRequester, serveFound, serveListed, requestCall, frameCall, reportCall, renameWith, rename, act, readingOf, step}
+use Rattle.model.specs.Stations.{nobody, newStation, setup, timed, tickRequester, withoutLate, tick, logRequester, logEntry, logCause, logCall, Served, withRequester, serveFound, serveListed, requestCall, frameCall, reportCall, renameWith, rename, act, readingOf, step}
 use Rattle.model.specs.Runs.{run}
 use Rattle.model.specs.Sound.{loggingCall, LoggedBy, Identified, identified, unidentified, Sound, AlwaysSound}
 
@@ -55,9 +56,9 @@ module _ (i : List ℕ) where
   identified-kept g h e f (identified p q) = identified (e ∙ p) q
   identified-kept g h e f (unidentified p q) = unidentified (e ∙ p) (f q)
 
-  identified-named : (g : Station) (j : List ℕ) (log : List Entry) (l : List Address) → g .identity ≡ some j → Identified i g → Identified i (newStation j log l)
-  identified-named g j log l e (identified p q) = identified (sym e ∙ p) q
-  identified-named g j log l e (unidentified p q) = never cc
+  identified-named : (g : Station) (t : Timer) (j : List ℕ) (log : List Entry) (l : List Address) → g .identity ≡ some j → Identified i g → Identified i (newStation t j log l)
+  identified-named g t j log l e (identified p q) = identified (sym e ∙ p) q
+  identified-named g t j log l e (unidentified p q) = never cc
 
 -- ---- calls
 
@@ -74,7 +75,7 @@ module _ (most : Capacities) (i : List ℕ) (cs : List Call) where
     sound-renamed : (log : List Entry) (l : List Address) → LoggedBy cs log → (o : Option (List ℕ)) → g .identity ≡ o → After (renameWith log l g o)
     unfolding renameWith
     sound-renamed log l j none e = s
-    sound-renamed log l j (some k) e = record { log = j; identity = identified-named i g k log l e (s .identity) }
+    sound-renamed log l j (some k) e = record { log = j; identity = identified-named i g (g .timer) k log l e (s .identity) }
 
     sound-rename : (log : List Entry) (l : List Address) → LoggedBy cs log → After (rename most log l g)
     unfolding rename
@@ -85,31 +86,31 @@ module _ (most : Capacities) (i : List ℕ) (cs : List Call) where
     sound-logging t e m =
         either After _ _ _ (λ _. s)
         (λ h. record {
-          log = logged-pushed cs (most .events) (g .log) (record { reading = t; event = e }) (s .log) m (eqb-true _ 0 (not-false _ h));
+          log = logged-pushed cs (most .events) (g .log) (record { stamp = g .timer .now; reading = t; event = e }) (s .log) m (eqb-true _ 0 (not-false _ h));
           identity = identified-kept i g _ refl (λ p. ap (map (logRequester most (g .log))) p) (s .identity);
         })
 
-    sound-act : (c : Call) → Among c cs → After (act most c g)
+    sound-act : (since : ℕ → ℕ → ℕ) (c : Call) → Among c cs → After (act since most c g)
     unfolding act requestCall frameCall reportCall serveListed
-    sound-act (clock t) m = s
-    sound-act (logging t e) m = sound-logging t e m
-    sound-act (frame t d a o) m = either After _ _ _ (λ _. s) (λ _. sound-found a _ [] (find a (g .requesters)))
-    sound-act (report t a k b) m = sound-found a _ b (find a (g .requesters))
-    sound-act (roam t l) m = sound-rename (g .log) l (s .log)
-    sound-act (change t l) m = sound-rename [] l (logged-empty cs)
+    sound-act since (clock t) m = s
+    sound-act since (logging t e) m = sound-logging t e m
+    sound-act since (frame t d a o) m = either After _ _ _ (λ _. s) (λ _. sound-found a _ [] (find a (g .requesters)))
+    sound-act since (report t a k b) m = sound-found a _ b (find a (g .requesters))
+    sound-act since (roam t l) m = sound-rename (g .log) l (s .log)
+    sound-act since (change t l) m = sound-rename [] l (logged-empty cs)
 
-  pub sound-tick : (t : ℕ) (g : Station) → Sound i cs g → Sound i cs (tick t g)
-  unfolding tick
-  sound-tick t g s = record { log = s .log; identity = identified-kept i g _ refl (λ e. ap (map (tickRequester t)) e) (s .identity) }
+  pub sound-tick : (k : Clock) (t : ℕ) (g : Station) → Sound i cs g → Sound i cs (tick k t g)
+  unfolding withoutLate timed
+  sound-tick k t g s = record { log = s .log; identity = identified-kept i g _ refl (λ e. ap (map (tickRequester (k .since) (k .time (g .timer) t))) e) (s .identity) }
 
-  sound-step : (g : Station) (c : Call) → Among c cs → Sound i cs g → Sound i cs (step most g c .station)
+  sound-step : (k : Clock) (g : Station) (c : Call) → Among c cs → Sound i cs g → Sound i cs (step k most g c .station)
   unfolding step
-  sound-step g c m s = sound-act (tick (readingOf c) g) (sound-tick (readingOf c) g s) c m
+  sound-step k g c m s = sound-act (tick k (readingOf c) g) (sound-tick k (readingOf c) g s) (k .since) c m
 
-  sound-run : (later-calls : List Call) → ((c : Call) → Among c later-calls → Among c cs) → (g : Station) → Sound i cs g → Sound i cs (run most g later-calls)
+  sound-run : (k : Clock) (later-calls : List Call) → ((c : Call) → Among c later-calls → Among c cs) → (g : Station) → Sound i cs g → Sound i cs (run k most g later-calls)
   unfolding run
-  sound-run [] f g s = s
-  sound-run (c ∷ rest) f g s = sound-run rest (λ x m. f x (later m)) (step most g c .station) (sound-step g c (f c first) s)
+  sound-run k [] f g s = s
+  sound-run k (c ∷ rest) f g s = sound-run k rest (λ x m. f x (later m)) (step k most g c .station) (sound-step k g c (f c first) s)
 
   sound-nobody : Sound i cs nobody
   sound-nobody = record { log = logged-empty cs; identity = unidentified refl refl }
@@ -123,6 +124,6 @@ module _ (most : Capacities) (i : List ℕ) (cs : List Call) where
 pub always-sound : AlwaysSound
 always-sound = record {
   at-setup = λ most i l cs. sound-setup most i cs l;
-  kept = λ most i cs g c. sound-step most i cs g c;
-  after = λ most i l cs. sound-run most i cs cs (λ c m. m) (setup most i l .station) (sound-setup most i cs l);
+  kept = λ k most i cs g c. sound-step most i cs k g c;
+  after = λ k most i l cs. sound-run most i cs k cs (λ c m. m) (setup most i l .station) (sound-setup most i cs l);
 }

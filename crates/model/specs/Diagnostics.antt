@@ -8,7 +8,7 @@ use lib.Dec.{eqb}
 use lib.ListN.{take}
 use Rattle.laws.specs.Members.{any}
 use Rattle.laws.specs.Choice.{if_then_else_}
-use Rattle.units.specs.Time.{age, exceeds}
+use Rattle.units.specs.Time.{exceeds}
 use Rattle.octets.specs.declared.numbers.Kind.the-variants.{Diagnostic as Kind·Diagnostic}
 use Rattle.octets.specs.Numbers.{successful, incapable}
 use Rattle.requests.specs.declared.Element.{Element}
@@ -27,24 +27,24 @@ diagnosticTreatment ty = if eqb ty 0 then Cancel else if eqb ty 1 then Identity 
 
 -- ---- the late drop
 
--- "whose age since acceptance is more than its timeout times 1,000"
-unfoldable pub isLate : ℕ → ℕ → Diagnostic → Bool
-isLate reading accepted x = exceeds (age reading accepted) (x .timeout * 1000)
+-- "whose age since acceptance is more than its timeout times 1,000"; since takes the age
+unfoldable pub isLate : (ℕ → ℕ → ℕ) → ℕ → ℕ → Diagnostic → Bool
+isLate since now accepted x = exceeds (since now accepted) (x .timeout * 1000)
 
-unfoldable pub onTime : ℕ → ℕ → List Diagnostic → List Diagnostic
-onTime reading accepted [] = []
-onTime reading accepted (x ∷ xs) =
-    if isLate reading accepted x then onTime reading accepted xs
-    else x ∷ onTime reading accepted xs
+unfoldable pub onTime : (ℕ → ℕ → ℕ) → ℕ → ℕ → List Diagnostic → List Diagnostic
+onTime since now accepted [] = []
+onTime since now accepted (x ∷ xs) =
+    if isLate since now accepted x then onTime since now accepted xs
+    else x ∷ onTime since now accepted xs
 
 -- "A diagnostic request with none left is over."
 unfoldable pub unlessOver : ℕ → ℕ → List Diagnostic → Option DiagnosticRequest
 unlessOver dialog accepted [] = none
 unlessOver dialog accepted (x ∷ xs) = some (record { dialog = dialog; accepted = accepted; elements = x ∷ xs })
 
-unfoldable pub dropLate : ℕ → Option DiagnosticRequest → Option DiagnosticRequest
-dropLate reading none = none
-dropLate reading (some r) = unlessOver (r .dialog) (r .accepted) (onTime reading (r .accepted) (r .elements))
+unfoldable pub dropLate : (ℕ → ℕ → ℕ) → ℕ → Option DiagnosticRequest → Option DiagnosticRequest
+dropLate since now none = none
+dropLate since now (some r) = unlessOver (r .dialog) (r .accepted) (onTime since now (r .accepted) (r .elements))
 
 -- ---- an accepted frame
 
@@ -67,9 +67,9 @@ diagnosticsOf q = map diagnosticOf (take (q .count) (q .elements))
 -- "A diagnostic frame holding type 0 (Cancel) ends that console's diagnostic request, leaves no new one, and comes before the equal-token
 -- rule"
 unfoldable pub takeDiagnostics : ℕ → Request → Option DiagnosticRequest → Option DiagnosticRequest
-takeDiagnostics reading q o =
+takeDiagnostics now q o =
     if holdsCancel (diagnosticsOf q) then none
-    else replace (λ r. eqb (q .dialog) (r .dialog)) (unlessOver (q .dialog) reading (diagnosticsOf q)) o
+    else replace (λ r. eqb (q .dialog) (r .dialog)) (unlessOver (q .dialog) now (diagnosticsOf q)) o
 
 -- ---- a report
 

@@ -1,3 +1,4 @@
+pub mod Clocks
 pub mod Model
 pub mod Requesters
 pub mod Dialogs
@@ -10,4 +11,8 @@ pub mod Refusals
 pub mod Runs
 pub mod Sound
 pub mod Independence
+pub mod Ages
+pub mod Agreement
+pub mod Premise
 pub mod Starred
+pub mod StoredGate

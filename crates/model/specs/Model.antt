@@ -11,6 +11,7 @@ use Rattle.requests.specs.Elements.{elementCapacity}
 use Rattle.events.specs.Log.{logCapacity}
 use Rattle.events.specs.Loggings.{LoggedEvent}
 use Rattle.model.specs.declared.Diagnostic.{Diagnostic}
+use Rattle.model.specs.Clocks.{Timer}
 
 -- how much a station holds: events in its log, requesters, elements of a request frame
 pub record Capacities : Type 0 where
@@ -39,7 +40,7 @@ pub record EventRequest : Type 0 where
   pub start : ℕ
   pub elements : List Element
 
--- an outstanding diagnostic request: its dialog token, the reading of its acceptance, its unanswered elements
+-- an outstanding diagnostic request: its dialog token, the time of its acceptance, its unanswered elements
 pub record DiagnosticRequest : Type 0 where
   pub dialog : ℕ
   pub accepted : ℕ
@@ -51,8 +52,9 @@ pub record Requester : Type 0 where
   pub events : Option EventRequest
   pub diagnostics : Option DiagnosticRequest
 
--- identity: none where setup was refused; log: oldest first
+-- timer: of the latest call; identity: none where setup was refused; log: oldest first
 pub record Station : Type 0 where
+  pub timer : Timer
   pub identity : Option (List ℕ)
   pub log : List Entry
   pub requesters : List Requester

@@ -1,5 +1,5 @@
--- Demand 2, the events chosen and their order: what the choice of an element's next event gives. Claims about every log and request; their
--- proof is in proofs/NextEvent.antt.
+-- Demand 2, the events chosen and their order: what the choice of an element's next event gives. Claims about every log and request, however
+-- ages are taken; their proof is in proofs/NextEvent.antt.
 -- Assumes nothing.
 use Prim.Native.Nat.{ℕ, _≤_, _<_}
 use mathlib.Core.Path.{_≡_}
@@ -21,18 +21,18 @@ pub record Eligible (log : List Entry) (r : EventRequest) (p : ℕ) : Type 0 whe
   pub later : r .start ≤ p
 
 -- "the oldest one .. that meets all conditions, until the limit is reached"
-pub record OldestMatch (log : List Entry) (r : EventRequest) (x : Element) (p : ℕ) : Type 0 where
+pub record OldestMatch (since : ℕ → ℕ → ℕ) (log : List Entry) (r : EventRequest) (x : Element) (p : ℕ) : Type 0 where
   pub limit : r .given < x .limit
   pub eligible : Eligible log r p
-  pub matches : meets log (x .ty) (x .filter) p ≡ true
-  pub oldest : (q : ℕ) → Eligible log r q → q < p → meets log (x .ty) (x .filter) q ≡ false
+  pub matches : meets since log (x .ty) (x .filter) p ≡ true
+  pub oldest : (q : ℕ) → Eligible log r q → q < p → meets since log (x .ty) (x .filter) q ≡ false
 
 -- it is given, and no other; none is given exactly if the limit is reached or no eligible event meets the conditions
 pub record NextEvent : Type 0 where
-  pub given : (log : List Entry) (r : EventRequest) (x : Element) (p : ℕ) → nextEventPlace log r x ≡ some p → OldestMatch log r x p
-  pub only : (log : List Entry) (r : EventRequest) (x : Element) (p : ℕ) → OldestMatch log r x p → nextEventPlace log r x ≡ some p
-  pub none-left : (log : List Entry) (r : EventRequest) (x : Element) → nextEventPlace log r x ≡ none → r .given < x .limit
-      → (q : ℕ) → Eligible log r q → meets log (x .ty) (x .filter) q ≡ false
-  pub over : (log : List Entry) (r : EventRequest) (x : Element) → x .limit ≤ r .given → nextEventPlace log r x ≡ none
-  pub unmatched : (log : List Entry) (r : EventRequest) (x : Element) → ((q : ℕ) → Eligible log r q → meets log (x .ty) (x .filter) q ≡ false)
-      → nextEventPlace log r x ≡ none
+  pub given : (since : ℕ → ℕ → ℕ) (log : List Entry) (r : EventRequest) (x : Element) (p : ℕ) → nextEventPlace since log r x ≡ some p → OldestMatch since log r x p
+  pub only : (since : ℕ → ℕ → ℕ) (log : List Entry) (r : EventRequest) (x : Element) (p : ℕ) → OldestMatch since log r x p → nextEventPlace since log r x ≡ some p
+  pub none-left : (since : ℕ → ℕ → ℕ) (log : List Entry) (r : EventRequest) (x : Element) → nextEventPlace since log r x ≡ none → r .given < x .limit
+      → (q : ℕ) → Eligible log r q → meets since log (x .ty) (x .filter) q ≡ false
+  pub over : (since : ℕ → ℕ → ℕ) (log : List Entry) (r : EventRequest) (x : Element) → x .limit ≤ r .given → nextEventPlace since log r x ≡ none
+  pub unmatched : (since : ℕ → ℕ → ℕ) (log : List Entry) (r : EventRequest) (x : Element) → ((q : ℕ) → Eligible log r q → meets since log (x .ty) (x .filter) q ≡ false)
+      → nextEventPlace since log r x ≡ none

@@ -1,5 +1,5 @@
--- Demand 1: what a refused call leaves, and by which causes a call is refused. Claims about every station, whatever its capacities, and every call; their proofs are
--- in proofs/Refusals.antt.
+-- Demand 1: what a refused call leaves, and by which causes a call is refused. Claims about every station, whatever its clock and capacities, and every call; their
+-- proofs are in proofs/Refusals.antt.
 -- Assumes nothing.
 use Prim.Native.Nat.{ℕ, _<_}
 use mathlib.Core.Path.{_≡_}
@@ -8,6 +8,7 @@ use Rattle.laws.specs.Members.{Among}
 use Rattle.octets.specs.declared.refusals.Refusal.{Refusal}
 use Rattle.octets.specs.Refusals.{noElement, groupDestination, unknownRequester, shortBuffer, badTime, badRequesterList, badIdentity, badReportBody}
 use Rattle.requests.specs.Requests.{requestCauses}
+use Rattle.model.specs.Clocks.{Clock}
 use Rattle.model.specs.Model.{Capacities, Address, Station, Call, clock, logging, frame, report, roam, change, turnedAway}
 use Rattle.model.specs.Stations.{nobody, setup, readingOf, step}
 
@@ -40,13 +41,13 @@ pub record RefusedBy (causes : List ℕ) (r : Refusal) : Type 0 where
   pub place : noElement < r .number → r .place ≡ 0
 
 -- "A refusal .. writes no octet of a lent buffer, and leaves a gate as a bare clock reading would."
-pub record LeftAlone (most : Capacities) (g : Station) (c : Call) (r : Refusal) : Type 0 where
+pub record LeftAlone (k : Clock) (most : Capacities) (g : Station) (c : Call) (r : Refusal) : Type 0 where
   pub refusal : RefusedBy (causesOf c) r
-  pub station : step most g c .station ≡ step most g (clock (readingOf c)) .station
-  pub buffer : step most g c .buffer ≡ lentBuffer c
+  pub station : step k most g c .station ≡ step k most g (clock (readingOf c)) .station
+  pub buffer : step k most g c .buffer ≡ lentBuffer c
 
 abbrev pub RefusedCall : Type 0
-RefusedCall = (most : Capacities) (g : Station) (c : Call) (r : Refusal) → step most g c .answer ≡ turnedAway r → LeftAlone most g c r
+RefusedCall = (k : Clock) (most : Capacities) (g : Station) (c : Call) (r : Refusal) → step k most g c .answer ≡ turnedAway r → LeftAlone k most g c r
 
 -- "setup yields a gate with no console. .. Setup refused by 15 yields the same consoleless gate."
 pub record LeftUnnamed (most : Capacities) (i : List ℕ) (l : List Address) (r : Refusal) : Type 0 where

@@ -3,13 +3,19 @@
 use Prim.Native.Nat.{ℕ}
 use mathlib.Core.List.{List, [], _∷_}
 use mathlib.Core.Option.{Option, none, some}
+use Rattle.model.specs.Clocks.{Clock}
 use Rattle.model.specs.Model.{Capacities, Address, Station, Call, clock, logging, frame, report, roam, change, Answer}
-use Rattle.model.specs.Stations.{step}
+use Rattle.model.specs.Stations.{timed, readingOf, step}
 
 -- the station after a list of calls: each call is on the station that the one before it returned
-unfoldable pub run : Capacities → Station → List Call → Station
-run most g [] = g
-run most g (c ∷ cs) = run most (step most g c .station) cs
+unfoldable pub run : Clock → Capacities → Station → List Call → Station
+run k most g [] = g
+run k most g (c ∷ cs) = run k most (step k most g c .station) cs
+
+-- what is said of every call of a list, and of the station at its time, before the late drop
+unfoldable pub Always : (Station → Call → Type 0) → Clock → Capacities → Station → List Call → Type 0
+Always P k most g [] = Unit {0}
+Always P k most g (c ∷ cs) = P (timed k (readingOf c) g) c × Always P k most (step k most g c .station) cs
 
 -- "Sender: the source a frame call carries or the console a report call names"
 unfoldable pub sender : Call → Option Address
@@ -25,8 +31,8 @@ pub record Reply : Type 0 where
   pub answer : Answer
   pub buffer : List ℕ
 
-unfoldable pub reply : Capacities → Station → Call → Reply
-reply most g c = record { answer = step most g c .answer; buffer = step most g c .buffer }
+unfoldable pub reply : Clock → Capacities → Station → Call → Reply
+reply k most g c = record { answer = step k most g c .answer; buffer = step k most g c .buffer }
 
 -- "an answer is to its sender, listed or not": a call without a sender answers no requester
 unfoldable pub toSender : Option Address → (Address → Reply) → Option Reply

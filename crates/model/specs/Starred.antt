@@ -4,10 +4,12 @@
 use Prim.Native.Nat.{ℕ}
 use mathlib.Core.Path.{_≡_}
 use mathlib.Core.Bool.{Bool, true, false, not, _&&_}
-use mathlib.Core.List.{List, [], _∷_}
+use mathlib.Core.List.{List, [], _∷_, map}
 use mathlib.Core.Option.{Option, none, some}
 use lib.Dec.{eqb}
-use Rattle.units.specs.Time.{age, tusOf}
+use Rattle.laws.specs.Members.{any}
+use Rattle.units.specs.Time.{age, elapsedSince, tusOf}
+use Rattle.octets.specs.Fields.{low, high}
 use Rattle.subelements.specs.declared.Condition.{Condition}
 use Rattle.subelements.specs.Subelements.{absent}
 use Rattle.requests.specs.Elements.{elementCapacity}
@@ -16,8 +18,10 @@ use Rattle.events.specs.declared.Entry.{Entry}
 use Rattle.events.specs.declared.Transition.{Transition}
 use Rattle.events.specs.Loggings.{transition, entryOf}
 use Rattle.events.specs.Conditions.{meets}
-use Rattle.model.specs.Model.{DiagnosticRequest}
-use Rattle.model.specs.Diagnostics.{dropLate}
+use Rattle.model.specs.Clocks.{Clock, elapsedClock}
+use Rattle.model.specs.Model.{standard, Address, DiagnosticRequest, Station, Call, clock, frame}
+use Rattle.model.specs.Stations.{setup}
+use Rattle.model.specs.Runs.{run}
 
 pub data Case : Type 0 where
   -- departure, arrival, milliseconds, TUs
@@ -26,7 +30,7 @@ pub data Case : Type 0 where
   aged : ℕ → ℕ → Case
   -- a request frame, its refusal's number and place
   refusedFrame : List ℕ → ℕ → ℕ → Case
-  -- seconds, the reading of acceptance, a reading, whether it is alive there
+  -- seconds, the reading of acceptance, a later one, whether the diagnostic is alive there
   timeout : ℕ → ℕ → ℕ → Bool → Case
   -- a threshold, and whether a transition of 15 TU meets it
   threshold : ℕ → Bool → Case
@@ -54,6 +58,23 @@ unfoldable pub outstanding : Option DiagnosticRequest → Bool
 outstanding none = false
 outstanding (some r) = true
 
+-- an identity and a console of a gate
+unfoldable pub someIdentity : List ℕ
+someIdentity = 13 ∷ 3 ∷ 1 ∷ 2 ∷ 3 ∷ 11 ∷ 1 ∷ 4 ∷ 12 ∷ 1 ∷ 5 ∷ 14 ∷ 1 ∷ 6 ∷ 9 ∷ 1 ∷ 7 ∷ []
+
+unfoldable pub someConsole : Address
+someConsole = 2 ∷ 0 ∷ 0 ∷ 0 ∷ 0 ∷ 1 ∷ []
+
+-- a gate that took calls
+abbrev pub someGate : Clock → List Call → Station
+someGate k cs = run k standard (setup standard someIdentity (someConsole ∷ []) .station) cs
+
+-- is a diagnostic with a timeout in seconds, accepted at one reading, outstanding after bare clock readings?
+unfoldable pub waits : Clock → ℕ → ℕ → List ℕ → Bool
+waits k seconds accepted readings =
+    any (λ r. outstanding (r .diagnostics))
+    (someGate k (frame accepted someConsole someConsole (10 ∷ 2 ∷ 8 ∷ 80 ∷ 4 ∷ 6 ∷ 1 ∷ low seconds ∷ high seconds ∷ []) ∷ map clock readings) .requesters)
+
 -- a transition across the rollover; logged at 10 it takes 15 TU
 unfoldable pub slowTransition : Transition
 slowTransition = record {
@@ -67,7 +88,7 @@ slowTransition = record {
 }
 
 unfoldable pub slow : Entry
-slow = entryOf 10 (transition slowTransition)
+slow = entryOf 0 10 (transition slowTransition)
 
 -- the conditions of an element with a threshold below 256 TU
 unfoldable pub leastTransition : ℕ → List Condition
@@ -82,8 +103,8 @@ caseHolds (crossing departure arrival milliseconds tus) = eqb (age arrival depar
 caseHolds (aged milliseconds tus) = eqb (tusOf milliseconds) tus
 caseHolds (refusedFrame o number place) = eqb (readRequest elementCapacity o .refusal .number) number && eqb (readRequest elementCapacity o .refusal .place) place
 caseHolds (timeout seconds accepted reading alive) =
-    equal alive (outstanding (dropLate reading (some (record { dialog = 1; accepted = accepted; elements = record { token = 1; ty = 1; timeout = seconds } ∷ [] }))))
-caseHolds (threshold tus met) = equal met (meets (slow ∷ []) 0 (leastTransition tus) 0)
+    equal alive (waits elapsedClock seconds accepted (reading ∷ []))
+caseHolds (threshold tus met) = equal met (meets elapsedSince (slow ∷ []) 0 (leastTransition tus) 0)
 
 unfoldable pub allHold : List Case → Bool
 allHold [] = true

@@ -7,6 +7,7 @@ use lib.ListN.{length, getD, take, drop, replicate}
 use Rattle.laws.specs.Choice.{if_then_else_}
 use Rattle.laws.specs.Walk.{repeatWhile}
 use Rattle.events.specs.Loggings.{transition, rsna, peerLink}
+use Rattle.model.specs.Clocks.{elapsedClock}
 use Rattle.model.specs.Model.{standard, Address, Station, Result, Call, clock, logging, frame, report, roam, change}
 use Rattle.model.specs.Stations.{setup, step}
 use Rattle.traces.specs.declared.calls.Span.{Span}
@@ -57,14 +58,14 @@ logPeerLinkAt s at = logging (millisecondsAt s (fieldsOf s at) .0) (peerLink (pe
 unfoldable pub stationAfter : List ℕ → ℕ → Station → Station
 stationAfter s at g =
     if eqb (getD s at 0) 0 then setupAt s at .station
-    else if eqb (getD s at 0) 1 then step standard g (clockAt s at) .station
-    else if eqb (getD s at 0) 2 then step standard g (logTransitionAt s at) .station
-    else if eqb (getD s at 0) 3 then step standard g (frameAt s at) .station
-    else if eqb (getD s at 0) 4 then step standard g (reportAt s at) .station
-    else if eqb (getD s at 0) 5 then step standard g (roamAt s at) .station
-    else if eqb (getD s at 0) 6 then step standard g (changeAt s at) .station
-    else if eqb (getD s at 0) 7 then step standard g (logRsnaAt s at) .station
-    else if eqb (getD s at 0) 8 then step standard g (logPeerLinkAt s at) .station
+    else if eqb (getD s at 0) 1 then step elapsedClock standard g (clockAt s at) .station
+    else if eqb (getD s at 0) 2 then step elapsedClock standard g (logTransitionAt s at) .station
+    else if eqb (getD s at 0) 3 then step elapsedClock standard g (frameAt s at) .station
+    else if eqb (getD s at 0) 4 then step elapsedClock standard g (reportAt s at) .station
+    else if eqb (getD s at 0) 5 then step elapsedClock standard g (roamAt s at) .station
+    else if eqb (getD s at 0) 6 then step elapsedClock standard g (changeAt s at) .station
+    else if eqb (getD s at 0) 7 then step elapsedClock standard g (logRsnaAt s at) .station
+    else if eqb (getD s at 0) 8 then step elapsedClock standard g (logPeerLinkAt s at) .station
     else g
 
 -- how far the records reach, and the station after them

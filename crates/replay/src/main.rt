@@ -35,6 +35,7 @@ use traces::setup_at;
 use traces::transition_at;
 use traces::writer_call_at;
 ghost use mathlib.Core.Path.{_≡_};
+ghost use Rattle.model.specs.Clocks.{elapsedClock};
 ghost use Rattle.model.specs.Model.{standard, report as Model·report};
 ghost use Rattle.model.specs.Stations.{step};
 ghost use Rattle.station.specs.Views.{view};
@@ -97,19 +98,19 @@ fn set_up(s: &[u8], at: usize) -> Station
 }
 
 fn tick(g: Station, s: &[u8], at: usize) -> Station
-    ensures { λ r. ⌜ view r ≡ step standard (view g) (clockAt (now (s .entry)) at) .station ⌝ }
+    ensures { λ r. ⌜ view r ≡ step elapsedClock standard (view g) (clockAt (now (s .entry)) at) .station ⌝ }
 {
     after(g.tick(reading_at(s, at)))
 }
 
 fn log_transition(g: Station, s: &[u8], at: usize) -> Station
-    ensures { λ r. ⌜ view r ≡ step standard (view g) (logTransitionAt (now (s .entry)) at) .station ⌝ }
+    ensures { λ r. ⌜ view r ≡ step elapsedClock standard (view g) (logTransitionAt (now (s .entry)) at) .station ⌝ }
 {
     after(g.log_transition(reading_at(s, at), transition_at(s, at)))
 }
 
 fn take_frame(g: Station, s: &[u8], at: usize) -> Station
-    ensures { λ r. ⌜ view r ≡ step standard (view g) (frameAt (now (s .entry)) at) .station ⌝ }
+    ensures { λ r. ⌜ view r ≡ step elapsedClock standard (view g) (frameAt (now (s .entry)) at) .station ⌝ }
 {
     let c = frame_call_at(s, at);
     let reading = c.reading;
@@ -120,7 +121,7 @@ fn take_frame(g: Station, s: &[u8], at: usize) -> Station
 }
 
 fn report_into(g: Station, c: ReportCall, buf: &mut [u8]) -> Station
-    ensures { λ r. ⌜ view r ≡ step standard (view g) (Model·report (c .reading .0) (c .requester) (c .kind) (now (buf .entry))) .station ⌝ }
+    ensures { λ r. ⌜ view r ≡ step elapsedClock standard (view g) (Model·report (c .reading .0) (c .requester) (c .kind) (now (buf .entry))) .station ⌝ }
 {
     let reading = c.reading;
     let requester = c.requester;
@@ -129,7 +130,7 @@ fn report_into(g: Station, c: ReportCall, buf: &mut [u8]) -> Station
 }
 
 fn report(g: Station, s: &[u8], at: usize) -> Station
-    ensures { λ r. ⌜ view r ≡ step standard (view g) (reportAt (now (s .entry)) at) .station ⌝ }
+    ensures { λ r. ⌜ view r ≡ step elapsedClock standard (view g) (reportAt (now (s .entry)) at) .station ⌝ }
 {
     let c = report_call_at(s, at);
     let fill = c.fill;
@@ -141,7 +142,7 @@ fn report(g: Station, s: &[u8], at: usize) -> Station
 }
 
 fn roam(g: Station, s: &[u8], at: usize) -> Station
-    ensures { λ r. ⌜ view r ≡ step standard (view g) (roamAt (now (s .entry)) at) .station ⌝ }
+    ensures { λ r. ⌜ view r ≡ step elapsedClock standard (view g) (roamAt (now (s .entry)) at) .station ⌝ }
 {
     let c = move_at(s, at);
     let reading = c.reading;
@@ -151,7 +152,7 @@ fn roam(g: Station, s: &[u8], at: usize) -> Station
 }
 
 fn change_network(g: Station, s: &[u8], at: usize) -> Station
-    ensures { λ r. ⌜ view r ≡ step standard (view g) (changeAt (now (s .entry)) at) .station ⌝ }
+    ensures { λ r. ⌜ view r ≡ step elapsedClock standard (view g) (changeAt (now (s .entry)) at) .station ⌝ }
 {
     let c = move_at(s, at);
     let reading = c.reading;
@@ -161,7 +162,7 @@ fn change_network(g: Station, s: &[u8], at: usize) -> Station
 }
 
 fn log_rsna(g: Station, s: &[u8], at: usize) -> Station
-    ensures { λ r. ⌜ view r ≡ step standard (view g) (logRsnaAt (now (s .entry)) at) .station ⌝ }
+    ensures { λ r. ⌜ view r ≡ step elapsedClock standard (view g) (logRsnaAt (now (s .entry)) at) .station ⌝ }
 {
     let c = rsna_call_at(s, at);
     let event = c.event;
@@ -170,7 +171,7 @@ fn log_rsna(g: Station, s: &[u8], at: usize) -> Station
 }
 
 fn log_peer_link(g: Station, s: &[u8], at: usize) -> Station
-    ensures { λ r. ⌜ view r ≡ step standard (view g) (logPeerLinkAt (now (s .entry)) at) .station ⌝ }
+    ensures { λ r. ⌜ view r ≡ step elapsedClock standard (view g) (logPeerLinkAt (now (s .entry)) at) .station ⌝ }
 {
     after(g.log_peer_link(reading_at(s, at), peer_link_at(s, at)))
 }

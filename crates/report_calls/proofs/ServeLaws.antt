@@ -8,6 +8,7 @@ use mathlib.Core.Option.{Option, none, some}
 use lib.Dec.{eqb}
 use lib.ListN.{length, take}
 use borrow.Author.Tests.{eqb-true}
+use Rattle.units.specs.Time.{elapsedSince}
 use Rattle.laws.specs.Choice.{if_then_else_}
 use Rattle.laws.specs.Buffers.{onto}
 use Rattle.octets.specs.declared.numbers.Kind.the-variants.{Event, Diagnostic}
@@ -48,31 +49,31 @@ ended-diagnostics identity dialog accepted [] done e = rw e
 ended-diagnostics identity dialog accepted (x ∷ xs) done e = rw e
 
 module _ (r : Requester) (log : List Entry) (s : List ℕ) where
-  pub no-events : r .events .outstanding ≡ false → viewServed (record { requester = r; answer = Nothing }) s ≡ giveKind none log s (viewRequester r) Event
+  pub no-events : r .events .outstanding ≡ false → viewServed (record { requester = r; answer = Nothing }) s ≡ giveKind elapsedSince none log s (viewRequester r) Event
   unfolding giveKind ifOutstanding viewRequester viewEvents viewAnswer if_then_else_
   no-events e = rw e
 
   pub gives-events : (s′ : List ℕ) (f : Filled) → r .events .outstanding ≡ true
-      → FramedAs (nextEvent log) (reportAction Event) (r .events .dialog) (eventsAt (r .events) (progressOf (r .events))) s s′ (f .wrote) (f .done) (eventsAt (r .events) (f .after))
-      → viewServed (gaveEvents r f) s′ ≡ giveKind none log s (viewRequester r) Event
+      → FramedAs (nextEvent elapsedSince log) (reportAction Event) (r .events .dialog) (eventsAt (r .events) (progressOf (r .events))) s s′ (f .wrote) (f .done) (eventsAt (r .events) (f .after))
+      → viewServed (gaveEvents r f) s′ ≡ giveKind elapsedSince none log s (viewRequester r) Event
   unfolding giveKind ifOutstanding giveEvents viewRequester viewEvents viewAnswer eventsAt if_then_else_
   gives-events s′ f e g =
-      let P = nextFrame (nextEvent log) (reportAction Event) (r .events .dialog) (room s) (eventsAt (r .events) (progressOf (r .events))) in
-      let left : viewEvents (filledEvents (r .events) f) ≡ unlessDone (P .rest) (nextEvent log (P .rest)) =
-      ended-events (eventsAt (r .events) (f .after)) (nextEvent log (eventsAt (r .events) (f .after))) (f .done) (g .ended)
-      ∙ ap (λ (q : EventRequest). unlessDone q (nextEvent log q)) (g .after) in
+      let P = nextFrame (nextEvent elapsedSince log) (reportAction Event) (r .events .dialog) (room s) (eventsAt (r .events) (progressOf (r .events))) in
+      let left : viewEvents (filledEvents (r .events) f) ≡ unlessDone (P .rest) (nextEvent elapsedSince log (P .rest)) =
+      ended-events (eventsAt (r .events) (f .after)) (nextEvent elapsedSince log (eventsAt (r .events) (f .after))) (f .done) (g .ended)
+      ∙ ap (λ (q : EventRequest). unlessDone q (nextEvent elapsedSince log q)) (g .after) in
       rw (e, g .wrote, g .octets)
       (ap (λ (o : Option EventRequest). served (record { address = r .address; events = o; diagnostics = viewDiagnostics (r .diagnostics) }) (ofLength (length (P .octets))) (onto (P .octets) s)) left)
 
 module _ (r : Requester) (len : ℕ) (identity s : List ℕ) where
   pub no-diagnostics : r .diagnostics .outstanding ≡ false
-      → viewServed (record { requester = r; answer = Nothing }) s ≡ giveKind (viewIdentity len identity) [] s (viewRequester r) Diagnostic
+      → viewServed (record { requester = r; answer = Nothing }) s ≡ giveKind elapsedSince (viewIdentity len identity) [] s (viewRequester r) Diagnostic
   unfolding giveKind ifOutstanding viewRequester viewDiagnostics viewAnswer if_then_else_
   no-diagnostics e = rw e
 
   pub gives-diagnostics : (s′ : List ℕ) (f : Answered) → r .diagnostics .outstanding ≡ true
       → FramedAs (nextDiagnostic (take len identity)) (reportAction Diagnostic) (r .diagnostics .dialog) (left (r .diagnostics .first) (r .diagnostics .count) (r .diagnostics .elements)) s s′ (f .wrote) (f .done) (left (f .first) (r .diagnostics .count) (r .diagnostics .elements))
-      → viewServed (gaveDiagnostics r f) s′ ≡ giveKind (viewIdentity len identity) [] s (viewRequester r) Diagnostic
+      → viewServed (gaveDiagnostics r f) s′ ≡ giveKind elapsedSince (viewIdentity len identity) [] s (viewRequester r) Diagnostic
   unfolding giveKind ifOutstanding giveDiagnostics viewRequester viewDiagnostics viewAnswer if_then_else_
   gives-diagnostics s′ f e g =
       let d = r .diagnostics in

@@ -23,6 +23,7 @@ ghost use lib.ListN.{length, take};
 ghost use Rattle.octets.specs.declared.numbers.Kind.the-variants.{Event, Diagnostic};
 ghost use Rattle.octets.specs.Numbers.{longestFrame, reportAction};
 ghost use Rattle.events.specs.Log.{logged};
+ghost use Rattle.units.specs.Time.{elapsedSince};
 ghost use Rattle.model.specs.Events.{nextEvent};
 ghost use Rattle.model.specs.Diagnostics.{nextDiagnostic};
 ghost use Rattle.model.specs.Stations.{giveKind, giveReport};
@@ -75,7 +76,7 @@ fn put_header(buf: &mut [u8], kind: Kind, dialog: u8) -> usize
 // An Event Report frame.
 fn frame_events(log: Log, r: EventRequest, buf: &mut [u8]) -> Filled
     requires { ⌜ 260 ≤ length (now buf) ⌝ }
-    ensures { λ f. ⌜ FramedAs (nextEvent (logged log)) (reportAction Event) (r .dialog) (eventsAt r (progressOf r)) (now (buf .entry)) (now (buf .exit)) (f .wrote) (f .done) (eventsAt r (f .after)) ⌝ }
+    ensures { λ f. ⌜ FramedAs (nextEvent elapsedSince (logged log)) (reportAction Event) (r .dialog) (eventsAt r (progressOf r)) (now (buf .entry)) (now (buf .exit)) (f .wrote) (f .done) (eventsAt r (f .after)) ⌝ }
 {
     let end = put_header(buf, Kind::Event, r.dialog);
     fill_events(log, r, &mut buf[3..end])
@@ -140,7 +141,7 @@ fn gave_diagnostics(r: Requester, f: Answered) -> Served
 // An event report, where a request is outstanding.
 fn give_events(r: Requester, log: Log, buf: &mut [u8]) -> Served
     requires { ⌜ 260 ≤ length (now buf) ⌝ }
-    ensures { λ n. ⌜ viewServed n (now (buf .exit)) ≡ giveKind none (logged log) (now (buf .entry)) (viewRequester r) Event ⌝ }
+    ensures { λ n. ⌜ viewServed n (now (buf .exit)) ≡ giveKind elapsedSince none (logged log) (now (buf .entry)) (viewRequester r) Event ⌝ }
 {
     let events = r.events;
     if !events.outstanding {
@@ -153,7 +154,7 @@ fn give_events(r: Requester, log: Log, buf: &mut [u8]) -> Served
 // A diagnostic report, where a request is outstanding.
 fn give_diagnostics(r: Requester, identity: &[u8; 252], len: usize, buf: &mut [u8]) -> Served
     requires { ⌜ 260 ≤ length (now buf) ⌝ }
-    ensures { λ n. ⌜ viewServed n (now (buf .exit)) ≡ giveKind (viewIdentity len (now (identity .entry))) [] (now (buf .entry)) (viewRequester r) Diagnostic ⌝ }
+    ensures { λ n. ⌜ viewServed n (now (buf .exit)) ≡ giveKind elapsedSince (viewIdentity len (now (identity .entry))) [] (now (buf .entry)) (viewRequester r) Diagnostic ⌝ }
 {
     let diagnostics = r.diagnostics;
     if !diagnostics.outstanding {
@@ -172,7 +173,7 @@ pub fn give_report(
     kind: Kind,
     buf: &mut [u8],
 ) -> Served
-    ensures { λ n. ⌜ viewServed n (now (buf .exit)) ≡ giveReport (viewIdentity len (now (identity .entry))) (logged log) kind (now (buf .entry)) (viewRequester r) ⌝ }
+    ensures { λ n. ⌜ viewServed n (now (buf .exit)) ≡ giveReport elapsedSince (viewIdentity len (now (identity .entry))) (logged log) kind (now (buf .entry)) (viewRequester r) ⌝ }
 {
     if buf.len() < numbers::REPORT_BUFFER {
         return served(r, Answer::Refused(Refusal::new(causes::SHORT_BUFFER, 0)));

@@ -197,14 +197,14 @@ module _ (s : List ℕ) (at : ℕ) (r : List ℕ) where
       let body : List ℕ = eventBody (x .reading) (x .event) in
       let nine = time-nine (x .event) w in
       let there : drop at s ≡ reportElement Event token ty 0 (time ++ body) ++ r =
-      h ∙ ap (λ (b : List ℕ). reportElement Event token ty 0 (time ++ b) ++ r) (body-back (x .reading) (x .event)) in
+      h ∙ ap (λ (b : List ℕ). reportElement Event token ty 0 (time ++ b) ++ r) (body-back (x .stamp) (x .reading) (x .event)) in
       let behind-time : drop (at + 14) s ≡ body ++ r =
       stands-behind s (at + 5) time (body ++ r) (rest-there s Event at token ty 0 (time ++ body) r there ∙ append-assoc time body r) (at + 14) (omega (arith, nine)) in
       let long = length-fits s at r (x .reading) (x .event) w good behind-time (reportLength (length body)) refl in
       record {
         step =
             logged-back token ty time body nine (typed (x .event)) timed there long
-            ∙ ap (λ (b : List ℕ). foundStep (loggedElement token ty 0 (length (time ++ body))) (at + 5) (at + length (reportElement Event token ty 0 (time ++ b)))) (sym (body-back (x .reading) (x .event)));
+            ∙ ap (λ (b : List ℕ). foundStep (loggedElement token ty 0 (length (time ++ body))) (at + 5) (at + length (reportElement Event token ty 0 (time ++ b)))) (sym (body-back (x .stamp) (x .reading) (x .event)));
         behind = behind-there s Event at token ty 0 (time ++ body) r there;
         decodes = ap (λ (e : ReportedEvent). record { element = loggedElement token ty 0 (length (time ++ body)); behind = time ++ body; event = some e }) (decoded-back (x .reading) (x .event) w);
       }

@@ -24,34 +24,34 @@ unfolding unlessOver if_then_else_
 unless-over dialog accepted [] n e = rw (← e)
 unless-over dialog accepted (x ∷ xs) n e = rw (lt-ltb 0 n (omega arith))
 
-module _ (reading accepted : ℕ) where
+module _ (since : ℕ → ℕ → ℕ) (now accepted : ℕ) where
   -- the late drop of one element after the other
-  pub on-time-cons : (x : Diagnostic) (xs : List Diagnostic) → onTime reading accepted (x ∷ []) ++ onTime reading accepted xs ≡ onTime reading accepted (x ∷ xs)
+  pub on-time-cons : (x : Diagnostic) (xs : List Diagnostic) → onTime since now accepted (x ∷ []) ++ onTime since now accepted xs ≡ onTime since now accepted (x ∷ xs)
   unfolding onTime if_then_else_
-  on-time-cons x xs = go (isLate reading accepted x)
+  on-time-cons x xs = go (isLate since now accepted x)
     where
-      go : (b : Bool) → (if b then [] else x ∷ []) ++ onTime reading accepted xs ≡ (if b then onTime reading accepted xs else x ∷ onTime reading accepted xs)
+      go : (b : Bool) → (if b then [] else x ∷ []) ++ onTime since now accepted xs ≡ (if b then onTime since now accepted xs else x ∷ onTime since now accepted xs)
       go true = refl
       go false = refl
 
   -- k is kept of the places before i of a list l, and x stands at i
   pub on-time-next : (l : List Diagnostic) (i : ℕ) (d x : Diagnostic) (k k′ whole : List Diagnostic) → i < length l → getD l i d ≡ x
-      → k ++ onTime reading accepted (drop i l) ≡ whole → k′ ≡ k ++ onTime reading accepted (x ∷ []) → k′ ++ onTime reading accepted (drop (i + 1) l) ≡ whole
+      → k ++ onTime since now accepted (drop i l) ≡ whole → k′ ≡ k ++ onTime since now accepted (x ∷ []) → k′ ++ onTime since now accepted (drop (i + 1) l) ≡ whole
   on-time-next l i d x k k′ whole h q e f =
-      rw (f, append-assoc k (onTime reading accepted (x ∷ [])) (onTime reading accepted (drop (i + 1) l)), on-time-cons x (drop (i + 1) l))
+      rw (f, append-assoc k (onTime since now accepted (x ∷ [])) (onTime since now accepted (drop (i + 1) l)), on-time-cons x (drop (i + 1) l))
       (rw (drop-cons l i d h, ← add-one i, q) at e)
 
   -- what a place adds to what is kept: its element at the next place of es, or nothing
-  pub on-time-kept : (x : Diagnostic) (es : List Diagnostic) (n : ℕ) → n < length es → isLate reading accepted x ≡ false
-      → take (n + 1) (set es n x) ≡ take n es ++ onTime reading accepted (x ∷ [])
+  pub on-time-kept : (x : Diagnostic) (es : List Diagnostic) (n : ℕ) → n < length es → isLate since now accepted x ≡ false
+      → take (n + 1) (set es n x) ≡ take n es ++ onTime since now accepted (x ∷ [])
   unfolding onTime if_then_else_
   on-time-kept x es n h e = rw (e, add-one) (take-suc-set es n x h)
 
-  pub on-time-late : (x : Diagnostic) (k : List Diagnostic) → isLate reading accepted x ≡ true → k ≡ k ++ onTime reading accepted (x ∷ [])
+  pub on-time-late : (x : Diagnostic) (k : List Diagnostic) → isLate since now accepted x ≡ true → k ≡ k ++ onTime since now accepted (x ∷ [])
   unfolding onTime if_then_else_
   on-time-late x k e = rw e (sym (append-nil k))
 
-  pub on-time-end : (l : List Diagnostic) (i : ℕ) (k whole : List Diagnostic) → length l ≤ i → k ++ onTime reading accepted (drop i l) ≡ whole → k ≡ whole
+  pub on-time-end : (l : List Diagnostic) (i : ℕ) (k whole : List Diagnostic) → length l ≤ i → k ++ onTime since now accepted (drop i l) ≡ whole → k ≡ whole
   unfolding onTime
   on-time-end l i k whole h e = sym (append-nil k) ∙ (rw (drop-of-length-le l {i = i} h) at e)
 

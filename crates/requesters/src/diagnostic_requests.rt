@@ -8,10 +8,12 @@ use octets::least;
 use requests::ELEMENT_CAPACITY;
 use requests::Element;
 use requests::Request;
+use units::Elapsed;
 use units::Milliseconds;
 ghost use mathlib.Core.Path.{_≡_};
 ghost use mathlib.Core.Bool.{_&&_};
 ghost use Prim.Native.Nat.{_≤_};
+ghost use Rattle.units.specs.Time.{elapsedSince};
 ghost use Rattle.requests.specs.Elements.{elementCapacity};
 ghost use Rattle.model.specs.Diagnostics.{diagnosticTreatment, isLate, onTime, unlessOver, dropLate, isCancel, holdsCancel, diagnosticOf, diagnosticsOf};
 ghost use Rattle.requesters.specs.Views.{left, viewDiagnostics};
@@ -35,16 +37,15 @@ struct Diagnostics {
     pub elements: [Diagnostic; ELEMENT_CAPACITY],
 }
 
-fn is_late(reading: Milliseconds, accepted: Milliseconds, x: Diagnostic) -> bool
-    ensures { λ r. ⌜ r ≡ isLate (reading .0) (accepted .0) x ⌝ }
+fn is_late(now: Elapsed, accepted: Elapsed, x: Diagnostic) -> bool
+    ensures { λ r. ⌜ r ≡ isLate elapsedSince (now .0) (accepted .0) x ⌝ }
 {
-    reading
-        .since(accepted)
+    now.since(accepted)
         .exceeds(Milliseconds::from_seconds(x.timeout))
 }
 
 // A request of these elements; with none it is over.
-fn request_of(dialog: u8, accepted: Milliseconds, k: Diagnostics) -> DiagnosticRequest
+fn request_of(dialog: u8, accepted: Elapsed, k: Diagnostics) -> DiagnosticRequest
     requires { ⌜ k .count ≤ elementCapacity ⌝ }
     ensures { λ r. ⌜ viewDiagnostics r ≡ unlessOver dialog (accepted .0) (listedElements k) ⌝ }
 {
@@ -60,8 +61,8 @@ fn request_of(dialog: u8, accepted: Milliseconds, k: Diagnostics) -> DiagnosticR
 }
 
 // Those on time of the elements left.
-fn kept(d: DiagnosticRequest, reading: Milliseconds) -> Diagnostics
-    ensures { λ r. ⌜ (listedElements r ≡ onTime (reading .0) (d .accepted .0) (left (d .first) (d .count) (d .elements))) × (r .count ≤ elementCapacity) ⌝ }
+fn kept(d: DiagnosticRequest, now: Elapsed) -> Diagnostics
+    ensures { λ r. ⌜ (listedElements r ≡ onTime elapsedSince (now .0) (d .accepted .0) (left (d .first) (d .count) (d .elements))) × (r .count ≤ elementCapacity) ⌝ }
 {
     let accepted = d.accepted;
     let all = d.elements;
@@ -71,7 +72,7 @@ fn kept(d: DiagnosticRequest, reading: Milliseconds) -> Diagnostics
     let mut count: usize = 0;
     while i < end {
         let x = all[i];
-        if !is_late(reading, accepted, x) {
+        if !is_late(now, accepted, x) {
             elements[count] = x;
             count += 1;
         }
@@ -81,14 +82,14 @@ fn kept(d: DiagnosticRequest, reading: Milliseconds) -> Diagnostics
 }
 
 // The late drop.
-pub fn on_time(d: DiagnosticRequest, reading: Milliseconds) -> DiagnosticRequest
-    ensures { λ r. ⌜ viewDiagnostics r ≡ dropLate (reading .0) (viewDiagnostics d) ⌝ }
+pub fn on_time(d: DiagnosticRequest, now: Elapsed) -> DiagnosticRequest
+    ensures { λ r. ⌜ viewDiagnostics r ≡ dropLate elapsedSince (now .0) (viewDiagnostics d) ⌝ }
 {
     if !d.outstanding {
         return d;
     }
     let accepted = d.accepted;
-    request_of(d.dialog, accepted, kept(d, reading))
+    request_of(d.dialog, accepted, kept(d, now))
 }
 
 fn diagnostic_of(x: Element) -> Diagnostic
@@ -158,7 +159,7 @@ pub fn blank_diagnostics() -> DiagnosticRequest
     DiagnosticRequest {
         outstanding: false,
         dialog: 0,
-        accepted: Milliseconds(0),
+        accepted: Elapsed(0),
         first: 0,
         count: 0,
         elements: [Diagnostic {
@@ -194,11 +195,11 @@ pub fn renews_diagnostics(accepted: bool, q: Request, outstanding: bool, current
 }
 
 // What a frame that changes it leaves.
-pub fn new_diagnostics(q: Request, reading: Milliseconds) -> DiagnosticRequest
-    ensures { λ r. ⌜ viewDiagnostics r ≡ newDiagnostics (reading .0) q ⌝ }
+pub fn new_diagnostics(q: Request, now: Elapsed) -> DiagnosticRequest
+    ensures { λ r. ⌜ viewDiagnostics r ≡ newDiagnostics (now .0) q ⌝ }
 {
     if asks_cancel(q) {
         return blank_diagnostics();
     }
-    request_of(q.dialog, reading, diagnostics_of(q))
+    request_of(q.dialog, now, diagnostics_of(q))
 }

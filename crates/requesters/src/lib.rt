@@ -16,7 +16,7 @@ use model::Diagnostic;
 use octets::Refusal;
 use requests::ELEMENT_CAPACITY;
 use requests::Element;
-use units::Milliseconds;
+use units::Elapsed;
 
 // An event request, where outstanding. Its elements left are those from first to count; the front
 // one gave so many events, and the search for its next one goes on at start. The log's first mark
@@ -41,16 +41,16 @@ pub struct Progress {
     pub start: usize,
 }
 
-// A diagnostic request, where outstanding, and the reading of its acceptance. Its elements left are
+// A diagnostic request, where outstanding, and the time of its acceptance. Its elements left are
 // those from first to count; the other places are free.
 #[repr(C)]
 pub struct DiagnosticRequest {
-    pub outstanding: bool,
-    pub dialog: u8,
-    pub accepted: Milliseconds,
+    pub accepted: Elapsed,
     pub first: usize,
     pub count: usize,
     pub elements: [Diagnostic; ELEMENT_CAPACITY],
+    pub outstanding: bool,
+    pub dialog: u8,
 }
 
 // A requester, with at most one request of each kind.

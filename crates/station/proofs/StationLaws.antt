@@ -16,17 +16,19 @@ use Rattle.laws.proofs.Choice.{either}
 use Rattle.octets.specs.Refusals.{badRequesterList, badIdentity}
 use Rattle.events.specs.declared.Entry.{Entry}
 use Rattle.events.specs.declared.Log.{Log}
+use Rattle.model.specs.Clocks.{unset}
 use Rattle.model.specs.Model.{standard, requesterCapacity, Address, Station, Result, accepted}
 use Rattle.identities.specs.Identity.{stands, passRow, goodFrom, goodIdentity}
 use Rattle.model.specs.Requesters.{badList}
 use Rattle.requesters.specs.Views.{viewAnswer, viewIdentity}
 use Rattle.requesters.specs.declared.Requester.{Requester}
 use Rattle.station.proofs.RequesterLaws.{named-views}
+use Rattle.station.specs.declared.Timer.{Timer}
 use Rattle.station.specs.declared.Station.{Station as Code·Station}
 use Rattle.station.specs.declared.Outcome.{Outcome}
-use Rattle.station.specs.Memory.{namedRequesters, namedStation, setupStation, renamedStation, Leaves}
+use Rattle.station.specs.Memory.{namedRequesters, unsetTimer, namedStation, setupStation, Leaves}
 use Rattle.station.specs.Internal.{acceptedOutcome, renameCause}
-use Rattle.station.specs.Views.{view, viewOutcome}
+use Rattle.station.specs.Views.{viewTimer, view, viewOutcome}
 use Rattle.model.specs.Stations.{result, refusedFor, nobody, newStation, setup, renameWith, rename}
 use Rattle.events.specs.Log.{logged, blankLog}
 
@@ -60,14 +62,14 @@ unfolding viewIdentity if_then_else_
 view-some n o e = rw (ne-eqb n 0 e)
 
 -- a station that names the requesters of a list
-view-named : (n : ℕ) (o : List ℕ) (log : Log) (l : List Address) → (n ≡ 0 → ⊥) → length l ≤ requesterCapacity → view (namedStation o n log l) ≡ newStation (take n o) (logged log) l
+view-named : (t : Timer) (n : ℕ) (o : List ℕ) (log : Log) (l : List Address) → (n ≡ 0 → ⊥) → length l ≤ requesterCapacity → view (namedStation t o n log l) ≡ newStation (viewTimer t) (take n o) (logged log) l
 unfolding view
-view-named n o log l h few = rw (view-some n o h, named-views l few)
+view-named t n o log l h few = rw (view-some n o h, named-views l few)
 
-pub view-setup : (i : List ℕ) (l : List Address) → 0 < length i → length l ≤ requesterCapacity → view (setupStation i l) ≡ newStation i [] l
-unfolding logged
+pub view-setup : (i : List ℕ) (l : List Address) → 0 < length i → length l ≤ requesterCapacity → view (setupStation i l) ≡ newStation unset i [] l
+unfolding logged viewTimer if_then_else_
 view-setup i l h few =
-    view-named (length i) _ blankLog l (λ z. omega arith) few ∙ ap (λ (o : List ℕ). newStation o [] l) (take-at i _ (length i) refl)
+    view-named unsetTimer (length i) _ blankLog l (λ z. omega arith) few ∙ ap (λ (o : List ℕ). newStation unset o [] l) (take-at i _ (length i) refl)
 
 -- an identity that was copied to the front of an array
 pub copied-front : (s o y : List ℕ) → y ≡ take (length s) s ++ drop (length s) o → y ≡ onto s o
@@ -80,10 +82,10 @@ module _ (o : Outcome) where
   unfolding viewOutcome viewAnswer
   accepted-view g e = ap (λ (x : Outcome). viewOutcome x []) e
 
-  pub accepted-named : (i : List ℕ) (n : ℕ) (log : Log) (l : List Address) (rs : List Requester)
-      → o ≡ acceptedOutcome (record { identity = i; length = n; log = log; requesters = rs; count = length l }) → rs ≡ namedRequesters l
-      → o ≡ acceptedOutcome (namedStation i n log l)
-  accepted-named i n log l rs e f = rw f at e
+  pub accepted-named : (t : Timer) (i : List ℕ) (n : ℕ) (log : Log) (l : List Address) (rs : List Requester)
+      → o ≡ acceptedOutcome (record { timer = t; identity = i; length = n; log = log; requesters = rs; count = length l }) → rs ≡ namedRequesters l
+      → o ≡ acceptedOutcome (namedStation t i n log l)
+  accepted-named t i n log l rs e f = rw f at e
 
   pub accepted-leaves : (g : Code·Station) → o ≡ acceptedOutcome g → Leaves o g
   accepted-leaves g e a = ap (λ (x : Outcome). x .station) e
@@ -104,7 +106,7 @@ module _ (log : List Entry) (l : List Address) (g : Station) where
   unfolding rename renameWith if_then_else_
   rename-none e f = rw (e, f)
 
-  rename-some : (i : List ℕ) → badList requesterCapacity l ≡ false → g .identity ≡ some i → result (newStation i log l) accepted [] ≡ rename standard log l g
+  rename-some : (i : List ℕ) → badList requesterCapacity l ≡ false → g .identity ≡ some i → result (newStation (g .timer) i log l) accepted [] ≡ rename standard log l g
   unfolding rename renameWith if_then_else_
   rename-some i e f = rw (e, f)
 
@@ -128,13 +130,14 @@ rename-takes n l = go (badList requesterCapacity l) refl (eqb n 0) refl
     go false e true f h = absurd (omega arith)
     go false e false f h = (e, eqb-false n 0 f)
 
-pub rename-taken : (o : Outcome) (g : Code·Station) (v : Station) (log : Log) (l : List Address) → v .identity ≡ viewIdentity (g .length) (g .identity)
-    → renameCause (g .length) l ≡ 0 → o ≡ acceptedOutcome (renamedStation g log l) → viewOutcome o [] ≡ rename standard (logged log) l v
-rename-taken o g v log l is free e =
+pub rename-taken : (o : Outcome) (g : Code·Station) (log : Log) (l : List Address) → renameCause (g .length) l ≡ 0
+    → o ≡ acceptedOutcome (namedStation (g .timer) (g .identity) (g .length) log l) → viewOutcome o [] ≡ rename standard (logged log) l (view g)
+unfolding view
+rename-taken o g log l free e =
     let takes = rename-takes (g .length) l free in
     accepted-view o _ e
-    ∙ ap (λ (x : Station). result x accepted []) (view-named (g .length) (g .identity) log l (takes .1) (good-length l (takes .0)))
-    ∙ rename-some (logged log) l v _ (takes .0) (is ∙ view-some (g .length) (g .identity) (takes .1))
+    ∙ ap (λ (x : Station). result x accepted []) (view-named (g .timer) (g .length) (g .identity) log l (takes .1) (good-length l (takes .0)))
+    ∙ rename-some (logged log) l (view g) _ (takes .0) (view-some (g .length) (g .identity) (takes .1))
 
 module _ (i : List ℕ) (l : List Address) where
   pub setup-bad-list : badList requesterCapacity l ≡ true → result nobody (refusedFor badRequesterList) [] ≡ setup standard i l
@@ -145,6 +148,6 @@ module _ (i : List ℕ) (l : List Address) where
   unfolding setup if_then_else_
   setup-bad-identity e f = rw (e, f)
 
-  pub setup-good : badList requesterCapacity l ≡ false → goodIdentity i ≡ true → result (newStation i [] l) accepted [] ≡ setup standard i l
+  pub setup-good : badList requesterCapacity l ≡ false → goodIdentity i ≡ true → result (newStation unset i [] l) accepted [] ≡ setup standard i l
   unfolding setup if_then_else_
   setup-good e f = rw (e, f)

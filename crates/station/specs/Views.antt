@@ -3,16 +3,25 @@
 -- Assumes nothing.
 use Prim.Native.Nat.{ℕ}
 use mathlib.Core.List.{List, map}
+use mathlib.Core.Option.{none, some}
 use lib.ListN.{take}
+use Rattle.laws.specs.Choice.{if_then_else_}
 use Rattle.events.specs.Log.{logged}
+use Rattle.model.specs.Clocks.{Timer}
 use Rattle.model.specs.Model.{Station, Result}
 use Rattle.requesters.specs.Views.{viewRequester, viewIdentity, viewAnswer}
+use Rattle.station.specs.declared.Timer.{Timer as Code·Timer}
 use Rattle.station.specs.declared.Station.{Station as Code·Station}
 use Rattle.station.specs.declared.Outcome.{Outcome}
+
+-- the timer of the code: its reading is that of a call where one was made
+unfoldable pub viewTimer : Code·Timer → Timer
+viewTimer t = record { last = if t .started then some (t .last .0) else none; now = t .now .0 }
 
 unfoldable pub view : Code·Station → Station
 view g =
     record {
+      timer = viewTimer (g .timer);
       identity = viewIdentity (g .length) (g .identity);
       log = logged (g .log);
       requesters = map viewRequester (take (g .count) (g .requesters));

@@ -23,6 +23,7 @@ ghost use mathlib.Core.Path.{_≡_};
 ghost use mathlib.Core.List.{[]};
 ghost use lib.ListN.{length};
 ghost use Rattle.events.specs.Log.{logged as Log·logged};
+ghost use Rattle.model.specs.Clocks.{elapsedClock};
 ghost use Rattle.model.specs.Model.{standard, frame};
 ghost use Rattle.model.specs.Stations.{requestCall, step};
 ghost use Rattle.requesters.specs.Views.{viewAnswer};
@@ -63,15 +64,11 @@ fn answer_of(refusal: Refusal) -> Answer
 // requester has the place behind the last. One way out for all answers; the requesters to search and
 // those to change are read apart, and only what changes is written: else the log and the requesters
 // would be copied once more.
-fn take_request(
-    g: Station,
-    reading: Milliseconds,
-    destination: [u8; 6],
-    source: [u8; 6],
-    q: Request,
-) -> Outcome
-    ensures { λ r. ⌜ viewOutcome r [] ≡ requestCall (reading .0) destination source q (view g) ⌝ }
+fn take_request(g: Station, destination: [u8; 6], source: [u8; 6], q: Request) -> Outcome
+    ensures { λ r. ⌜ viewOutcome r [] ≡ requestCall destination source q (view g) ⌝ }
 {
+    let timer = g.timer;
+    let now = timer.now;
     let log = g.log;
     let all = g.requesters;
     let i = find(all, g.count, source);
@@ -89,12 +86,13 @@ fn take_request(
         requesters[at] = x;
     }
     if renews_diagnostics(accepted, q, d.outstanding, d.dialog) {
-        x.diagnostics = new_diagnostics(q, reading);
+        x.diagnostics = new_diagnostics(q, now);
         requesters[at] = x;
     }
     let identity = g.identity;
     Outcome {
         station: Station {
+            timer,
             identity,
             length: g.length,
             log,
@@ -114,9 +112,9 @@ impl Station {
         source: [u8; 6],
         o: &[u8],
     ) -> Outcome
-        ensures { λ r. ⌜ viewOutcome r [] ≡ step standard (view self) (frame (reading .0) destination source (now (o .entry))) ⌝ }
+        ensures { λ r. ⌜ viewOutcome r [] ≡ step elapsedClock standard (view self) (frame (reading .0) destination source (now (o .entry))) ⌝ }
     {
         let g = ticked(self, reading);
-        take_request(g, reading, destination, source, read_request(o))
+        take_request(g, destination, source, read_request(o))
     }
 }

@@ -41,12 +41,14 @@ pub(crate) fn outcome_with(
     requesters: [Requester; REQUESTER_CAPACITY],
     answer: Answer,
 ) -> Outcome
-    ensures { λ r. ⌜ ((buffer : List ℕ) → viewOutcome r buffer ≡ result (record { identity = view g .identity; log = view g .log; requesters = map viewRequester (take (g .count) requesters) }) (viewAnswer answer) buffer) ⌝ }
+    ensures { λ r. ⌜ ((buffer : List ℕ) → viewOutcome r buffer ≡ result (record { timer = view g .timer; identity = view g .identity; log = view g .log; requesters = map viewRequester (take (g .count) requesters) }) (viewAnswer answer) buffer) ⌝ }
 {
+    let timer = g.timer;
     let identity = g.identity;
     let log = g.log;
     Outcome {
         station: Station {
+            timer,
             identity,
             length: g.length,
             log,

@@ -1,10 +1,10 @@
 // Report calls.
 use crate::Outcome;
 use crate::Station;
+use crate::clock::ticked;
 use crate::outcomes::left_alone;
 use crate::outcomes::outcome_with;
 use crate::requester_lists::find;
-use crate::requester_lists::tick_requesters;
 use events::Log;
 use model::REQUESTER_CAPACITY;
 use model::REQUESTER_LAST;
@@ -16,6 +16,8 @@ use requesters::Requester;
 use requesters::Served;
 use units::Milliseconds;
 ghost use mathlib.Core.Path.{_≡_};
+ghost use Rattle.units.specs.Time.{elapsedSince};
+ghost use Rattle.model.specs.Clocks.{elapsedClock};
 ghost use Rattle.model.specs.Model.{standard, report as Model·report};
 ghost use Rattle.events.specs.Log.{logged};
 ghost use Rattle.model.specs.Stations.{giveReport, step};
@@ -33,7 +35,7 @@ fn serve_report(
     kind: Kind,
     buf: &mut [u8],
 ) -> Served
-    ensures { λ n. ⌜ viewServed n (now (buf .exit)) ≡ serveIf found (giveReport (viewIdentity len (now (identity .entry))) (logged log) kind (now (buf .entry))) (now (buf .entry)) (viewRequester r) ⌝ }
+    ensures { λ n. ⌜ viewServed n (now (buf .exit)) ≡ serveIf found (giveReport elapsedSince (viewIdentity len (now (identity .entry))) (logged log) kind (now (buf .entry))) (now (buf .entry)) (viewRequester r) ⌝ }
 {
     if !found {
         return left_alone(r, causes::UNKNOWN_REQUESTER);
@@ -50,20 +52,20 @@ impl Station {
         kind: Kind,
         buf: &mut [u8],
     ) -> Outcome
-        ensures { λ r. ⌜ viewOutcome r (now (buf .exit)) ≡ step standard (view self) (Model·report (reading .0) source kind (now (buf .entry))) ⌝ }
+        ensures { λ r. ⌜ viewOutcome r (now (buf .exit)) ≡ step elapsedClock standard (view self) (Model·report (reading .0) source kind (now (buf .entry))) ⌝ }
     {
-        let identity = self.identity;
-        let log = self.log;
-        let all = self.requesters;
-        let i = find(all, self.count, source);
-        let found = i < least(self.count, REQUESTER_CAPACITY);
-        let mut requesters = tick_requesters(all, self.count, reading);
+        let g = ticked(self, reading);
+        let identity = g.identity;
+        let log = g.log;
+        let mut requesters = g.requesters;
+        let i = find(requesters, g.count, source);
+        let found = i < least(g.count, REQUESTER_CAPACITY);
         let at = least(i, REQUESTER_LAST);
         let r = requesters[at];
-        let s = serve_report(r, found, &identity, self.length, log, kind, buf);
+        let s = serve_report(r, found, &identity, g.length, log, kind, buf);
         let requester = s.requester;
         let answer = s.answer;
         requesters[at] = requester;
-        outcome_with(self, requesters, answer)
+        outcome_with(g, requesters, answer)
     }
 }

@@ -5,6 +5,7 @@ use crate::outcomes::accepted_with;
 use crate::outcomes::refused_with;
 use crate::requester_lists::bad_list;
 use crate::requester_lists::named_requesters;
+use crate::timers::unset;
 use events::blank_log;
 use identities::good_identity;
 use octets::causes;
@@ -22,6 +23,7 @@ fn nobody() -> Station
     ensures { λ r. ⌜ view r ≡ Stations·nobody ⌝ }
 {
     Station {
+        timer: unset(),
         identity: [0; 252],
         length: 0,
         log: blank_log(),
@@ -38,6 +40,7 @@ fn setup_station(identity: &[u8], list: &[[u8; 6]]) -> Station
     let mut octets = [0u8; 252];
     bytes::copy(identity, &mut octets);
     Station {
+        timer: unset(),
         identity: octets,
         length: identity.len(),
         log: blank_log(),

@@ -1,4 +1,4 @@
--- Document 01, "Clock and transition time": ages across the rollover, and TUs.
+-- Document 01, "Clock and transition time": ages across the rollover, and TUs; document 02 (c): elapsed time.
 -- Assumes nothing.
 use Prim.Native.Nat.{ℕ, _+_, _-_, _*_, _/_, _%_, min}
 use mathlib.Core.Bool.{Bool}
@@ -12,6 +12,18 @@ turn = 4294967296
 -- taken off, which the remainder takes away again.
 abbrev pub age : ℕ → ℕ → ℕ
 age later earlier = (later + turn - earlier) % turn
+
+-- Document 02 (c): "elapsed milliseconds in 64 bits": the top of them
+abbrev pub elapsedTop : ℕ
+elapsedTop = 18446744073709551615
+
+-- "advanced .. by the reading's difference from the call before, staying at the top if it would pass it"
+abbrev pub advance : ℕ → ℕ → ℕ
+advance elapsed by = min elapsedTop (elapsed + by)
+
+-- the age between two elapsed times is their plain difference; 0 where earlier is not the earlier one
+abbrev pub elapsedSince : ℕ → ℕ → ℕ
+elapsedSince later earlier = later - earlier
 
 -- an age is "more than" a limit
 abbrev pub exceeds : ℕ → ℕ → Bool

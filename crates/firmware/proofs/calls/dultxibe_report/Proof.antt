@@ -3,6 +3,7 @@
 use mathlib.Core.Path.{ap, _∙_}
 use Rattle.firmware.specs.Numbers.{numbered}
 use Rattle.octets.specs.declared.numbers.Kind.{Kind}
+use Rattle.model.specs.Clocks.{elapsedClock}
 use Rattle.model.specs.Model.{standard, report}
 use Rattle.model.specs.Stations.{step}
 use Rattle.station.specs.Views.{view}
@@ -26,7 +27,7 @@ returns : tie.Need-returns
 returns c =
     let a = c .before .before .before .before .before .before .before .before .args in
     c .outcome-of .ensures _
-    ∙ ap numbered (c .before .before .before .report .ensures ∙ ap (λ (k : Kind). step standard (view (a .g)) (report (a .reading) (a .requester .now) k (a .buf .now))) (c .before .before .before .before .before .kind-of .ensures))
+    ∙ ap numbered (c .before .before .before .report .ensures ∙ ap (λ (k : Kind). step elapsedClock standard (view (a .g)) (report (a .reading) (a .requester .now) k (a .buf .now))) (c .before .before .before .before .before .kind-of .ensures))
 
 pub dultxibe-report-spec : {M : Type 1} → statement M
 dultxibe-report-spec =

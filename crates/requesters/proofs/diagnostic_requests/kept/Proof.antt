@@ -4,6 +4,7 @@ use Prim.Native.Nat.{_+_, _≤_, _-_}
 use mathlib.Core.Path.{_≡_, refl, sym, _∙_, ap}
 use mathlib.Core.Logic.{⊎-elim}
 use mathlib.Core.List.{List, [], _∷_, _++_}
+use Rattle.units.specs.Time.{elapsedSince}
 use Rattle.requests.specs.Elements.{elementCapacity}
 use Rattle.model.specs.declared.Diagnostic.{Diagnostic}
 use native.Mathlib.Omega.{arith}
@@ -18,11 +19,11 @@ use Rattle.requesters.proofs.diagnostic_requests.kept.Statement.{statem
 use Rattle.requesters.proofs.diagnostic_requests.kept.Tie as tie
 
 abbrev Inv-loop : tie.InvT-loop
-Inv-loop reading accepted all end i₀ elements₀ count₀ i elements count =
-    (count ≤ i) × (count ≤ elementCapacity) × (end ≤ length all) × (length all ≡ elementCapacity) × (length elements ≡ elementCapacity) × (take count elements ++ onTime (reading .0) (accepted .0) (drop i (take end all)) ≡ onTime (reading .0) (accepted .0) (drop i₀ (take end all)))
+Inv-loop now accepted all end i₀ elements₀ count₀ i elements count =
+    (count ≤ i) × (count ≤ elementCapacity) × (end ≤ length all) × (length all ≡ elementCapacity) × (length elements ≡ elementCapacity) × (take count elements ++ onTime elapsedSince (now .0) (accepted .0) (drop i (take end all)) ≡ onTime elapsedSince (now .0) (accepted .0) (drop i₀ (take end all)))
 
 abbrev μ-loop : tie.MeasureT-loop
-μ-loop reading accepted all end i₀ elements₀ count₀ i elements count = end - i
+μ-loop now accepted all end i₀ elements₀ count₀ i elements count = end - i
 
 least-requires : tie.Need-least-requires Inv-loop μ-loop
 least-requires c κs = search needs
@@ -59,21 +60,21 @@ loop-again : tie.Need-loop-again Inv-loop μ-loop
 loop-again c =
     let l = c .before .before .before .before .loop in
     let d = c .before .before .before .before .before .before .before .before .args .d in
-    let t = c .before .before .before .before .before .before .before .before .args .reading .0 in
+    let t = c .before .before .before .before .before .before .before .before .args .now .0 in
     let n = c .before .before .before .before .before .least .result in
     let size = length-within (d .elements) 8 n (l .inv .3) (d .count) (c .before .before .before .before .before .least .ensures) in
     let x = getD (d .elements) (l .i) pastDiagnostics in
     let front = take (c .if1 .count) (c .if1 .elements) in
-    let few : (c .if1 .count ≤ l .i + 1) × (c .if1 .count ≤ elementCapacity) × (length (c .if1 .elements) ≡ elementCapacity) × (front ≡ take (l .count) (l .elements) ++ onTime t (d .accepted .0) (x ∷ [])) =
+    let few : (c .if1 .count ≤ l .i + 1) × (c .if1 .count ≤ elementCapacity) × (length (c .if1 .elements) ≡ elementCapacity) × (front ≡ take (l .count) (l .elements) ++ onTime elapsedSince t (d .accepted .0) (x ∷ [])) =
     ⊎-elim
     (λ w.
     let late = sym (c .before .is-late .ensures) ∙ not-true _ (w .0 .taken) in
-    (omega (arith, w .2), omega (arith, w .2), ap length (w .1) ∙ length-set (l .elements) (l .count) x ∙ l .inv .4, rw (w .1, w .2) (on-time-kept t (d .accepted .0) x (l .elements) (l .count) (omega arith) late)))
+    (omega (arith, w .2), omega (arith, w .2), ap length (w .1) ∙ length-set (l .elements) (l .count) x ∙ l .inv .4, rw (w .1, w .2) (on-time-kept elapsedSince t (d .accepted .0) x (l .elements) (l .count) (omega arith) late)))
     (λ w.
     let late = sym (c .before .is-late .ensures) ∙ not-false _ (w .0 .left) in
-    (omega (arith, w .2), omega (arith, w .2), ap length (w .1) ∙ l .inv .4, rw (w .1, w .2) (on-time-late t (d .accepted .0) x _ late)))
+    (omega (arith, w .2), omega (arith, w .2), ap length (w .1) ∙ l .inv .4, rw (w .1, w .2) (on-time-late elapsedSince t (d .accepted .0) x _ late)))
     (c .if1 .came) in
-    (few .0, few .1, l .inv .2, l .inv .3, few .2, on-time-next t (d .accepted .0) (take n (d .elements)) (l .i) pastDiagnostics x (take (l .count) (l .elements)) front _ (omega arith) (getD-take n (d .elements) (l .i) pastDiagnostics (c .before .before .before .loop-test .taken)) (l .inv .5) (few .3))
+    (few .0, few .1, l .inv .2, l .inv .3, few .2, on-time-next elapsedSince t (d .accepted .0) (take n (d .elements)) (l .i) pastDiagnostics x (take (l .count) (l .elements)) front _ (omega arith) (getD-take n (d .elements) (l .i) pastDiagnostics (c .before .before .before .loop-test .taken)) (l .inv .5) (few .3))
 
 returns : tie.Need-returns Inv-loop μ-loop
 returns c =
@@ -82,7 +83,7 @@ returns c =
     let d = a .d in
     let n = c .before .before .least .result in
     let size = length-within (d .elements) 8 n (l .inv .3) (d .count) (c .before .before .least .ensures) in
-    (on-time-end (a .reading .0) (d .accepted .0) (take n (d .elements)) (l .i) (take (l .count) (l .elements)) _ (omega arith) (l .inv .5) ∙ ap (λ (x : List Diagnostic). onTime (a .reading .0) (d .accepted .0) (drop (d .first) x)) (take-within (d .elements) 8 n (l .inv .3) (d .count) (c .before .before .least .ensures)), l .inv .1)
+    (on-time-end elapsedSince (a .now .0) (d .accepted .0) (take n (d .elements)) (l .i) (take (l .count) (l .elements)) _ (omega arith) (l .inv .5) ∙ ap (λ (x : List Diagnostic). onTime elapsedSince (a .now .0) (d .accepted .0) (drop (d .first) x)) (take-within (d .elements) 8 n (l .inv .3) (d .count) (c .before .before .least .ensures)), l .inv .1)
 
 pub kept-spec : {M : Type 1} → statement M
 kept-spec =

@@ -17,7 +17,7 @@ take-request-requires c κs = search needs
 
 returns : tie.Need-returns
 unfolding step act readingOf frameCall
-returns c = c .take-request .ensures ∙ rw (c .before .before .ticked .ensures, c .before .read-request .ensures)
+returns c = c .take-request .ensures ∙ rw (c .before .before .ticked .ensures .0, c .before .read-request .ensures)
 
 pub take-frame-spec : {M : Type 1} → statement M
 take-frame-spec =

@@ -17,7 +17,7 @@ accepted-with-requires c κs = search needs
 
 returns : tie.Need-returns
 unfolding step act readingOf
-returns c = accepted-view _ _ (c .accepted-with .ensures) ∙ ap (λ (g : Station). result g accepted []) (c .before .ticked .ensures)
+returns c = accepted-view _ _ (c .accepted-with .ensures) ∙ ap (λ (g : Station). result g accepted []) (c .before .ticked .ensures .0)
 
 pub tick-spec : {M : Type 1} → statement M
 tick-spec = tie.close (tie.spec ticked-requires accepted-with-requires returns)

@@ -14,7 +14,7 @@ use Rattle.model.specs.Events.{openEvents}
 use Rattle.requesters.specs.declared.Requester.{Requester}
 use Rattle.requesters.specs.Views.{viewEvents, viewDiagnostics}
 use Rattle.station.proofs.RequesterLaws.{pastRequesters}
-use Rattle.station.specs.Views.{view, viewOutcome}
+use Rattle.station.specs.Views.{viewTimer, view, viewOutcome}
 use Rattle.station.proofs.CallLaws.{renews, frame-taken}
 use borrow.Author.Needs.{needs}
 use Rattle.station.proofs.frames.take_request.Statement.{statement}
@@ -69,14 +69,14 @@ answer-of-requires : tie.Need-answer-of-requires
 answer-of-requires c κs = search needs
 
 returns : tie.Need-returns
-unfolding view viewOutcome if_then_else_
+unfolding view viewTimer viewOutcome if_then_else_
 returns c =
-    let a = c .before .before .before .before .before .before .before .before .before .before .before .before .before .before .before .before .before .before .args in
+    let a = c .before .before .before .before .before .before .before .before .before .before .before .before .before .before .before .before .before .before .before .before .args in
     let g = view (a .g) in
     let rs = a .g .requesters in
     let at = c .before .before .before .before .before .before .before .before .before .before .before .before .before .least2 .result in
     let x = getD rs at pastRequesters in
-    let four : length rs ≡ requesterCapacity = search (needs, length-mapped, c .before .before .before .before .before .before .before .before .before .before .before .before .before .before .before .before .before .before .good .0) in
+    let four : length rs ≡ requesterCapacity = search (needs, length-mapped, c .before .before .before .before .before .before .before .before .before .before .before .before .before .before .before .before .before .before .before .before .good .0) in
     let i = c .before .before .before .before .before .before .before .before .before .before .before .before .before .before .before .find .result in
     let answer = c .answer-of .result in
     let ok = eqb (c .before .before .before .before .before .before .before .before .before .before .before .frame-refusal .result .number) 0 in
@@ -88,13 +88,13 @@ returns c =
     (λ w. (w .3 ∙ ap (set rs at) (sym (w .4)), ap (λ (r : Requester). r .address) (w .4), rw (w .4, w .0 .taken, w .2 .ensures, w .1 .ensures), ap (λ (r : Requester). r .diagnostics) (w .4)))
     (λ w. (w .1 ∙ sym (set-getD rs at pastRequesters) ∙ ap (set rs at) (sym (w .2)), ap (λ (r : Requester). r .address) (w .2), rw (w .2, w .0 .left), ap (λ (r : Requester). r .diagnostics) (w .2)))
     (first .came) in
-    let done = frame-taken (a .reading .0) (a .destination) (a .source) (a .q) g (a .g .count) rs four refl i (c .before .before .before .before .before .before .before .before .before .before .before .before .before .before .before .find .ensures) _ (ap (ltb i) (c .before .before .before .before .before .before .before .before .before .before .before .before .before .before .least .ensures)) _ (c .before .before .before .before .before .before .before .before .before .before .before .frame-refusal .ensures) at (c .before .before .before .before .before .before .before .before .before .before .before .before .before .least2 .ensures) in
+    let done = frame-taken (a .destination) (a .source) (a .q) g (a .g .count) rs four refl i (c .before .before .before .before .before .before .before .before .before .before .before .before .before .before .before .find .ensures) _ (ap (ltb i) (c .before .before .before .before .before .before .before .before .before .before .before .before .before .before .least .ensures)) _ (c .before .before .before .before .before .before .before .before .before .before .before .frame-refusal .ensures) at (c .before .before .before .before .before .before .before .before .before .before .before .before .before .least2 .ensures) in
     ⊎-elim
     (λ w.
     let y : Requester = record { address = first .x .address; events = first .x .events; diagnostics = w .1 .result } in
-    done (record { requester = y; answer = answer }) (c .answer-of .ensures) (renews (a .reading .0) (g .log) (a .q) x ok events diagnostics y (c .before .before .before .before .before .renews-events .ensures) (c .before .before .before .renews-diagnostics .ensures) (e .1) (e .2) (rw (w .0 .taken) (w .1 .ensures))) _ (w .2 ∙ ap (λ (l : List Requester). set l at y) (e .0) ∙ set-set rs at (first .x) y))
+    done (record { requester = y; answer = answer }) (c .answer-of .ensures) (renews (g .timer .now) (g .log) (a .q) x ok events diagnostics y (c .before .before .before .before .before .renews-events .ensures) (c .before .before .before .renews-diagnostics .ensures) (e .1) (e .2) (rw (w .0 .taken) (w .1 .ensures))) _ (w .2 ∙ ap (λ (l : List Requester). set l at y) (e .0) ∙ set-set rs at (first .x) y))
     (λ w.
-    done (record { requester = first .x; answer = answer }) (c .answer-of .ensures) (renews (a .reading .0) (g .log) (a .q) x ok events diagnostics (first .x) (c .before .before .before .before .before .renews-events .ensures) (c .before .before .before .renews-diagnostics .ensures) (e .1) (e .2) (rw (w .0 .left) (ap viewDiagnostics (e .3)))) _ (w .1 ∙ e .0))
+    done (record { requester = first .x; answer = answer }) (c .answer-of .ensures) (renews (g .timer .now) (g .log) (a .q) x ok events diagnostics (first .x) (c .before .before .before .before .before .renews-events .ensures) (c .before .before .before .renews-diagnostics .ensures) (e .1) (e .2) (rw (w .0 .left) (ap viewDiagnostics (e .3)))) _ (w .1 ∙ e .0))
     (c .before .before .if2 .came)
 
 pub take-request-spec : {M : Type 1} → statement M

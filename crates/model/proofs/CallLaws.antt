@@ -1,0 +1,64 @@
+-- What every call keeps of a station, and what setup leaves.
+-- Assumes nothing.
+use Prim.Native.Nat.{ℕ}
+use mathlib.Core.Path.{_≡_, refl, sym, ap}
+use mathlib.Core.List.{List, [], map}
+use mathlib.Core.Option.{Option, none, some}
+use Rattle.laws.proofs.Choice.{either}
+use Rattle.events.specs.declared.Entry.{Entry}
+use Rattle.model.specs.Clocks.{Timer, unset, Clock, advanced}
+use Rattle.model.specs.Model.{Capacities, Address, Requester, Station, Call, clock, logging, frame, report, roam, change, Result}
+use Rattle.model.specs.Requesters.{newRequester, find}
+use Rattle.model.specs.Stations.{setup, timed, withoutLate, tick, logEntry, logCall, Served, withRequester, serveFound, serveListed, requestCall, frameCall, reportCall, renameWith, rename, act, readingOf, step}
+
+-- ---- no call changes the identity, nor the timer but by its reading
+
+abbrev Kept : Station → Result → Type 0
+Kept g x = (x .station .timer ≡ g .timer) × (x .station .identity ≡ g .identity)
+
+found-kept : (a : Address) (serve : Requester → Served) (b : List ℕ) (g : Station) (o : Option Requester) → Kept g (serveFound a serve b g o)
+unfolding serveFound withRequester
+found-kept a serve b g none = (refl, refl)
+found-kept a serve b g (some r) = (refl, refl)
+
+module _ (most : Capacities) where
+  rename-kept : (log : List Entry) (l : List Address) (g : Station) → Kept g (rename most log l g)
+  unfolding rename renameWith
+  rename-kept log l g = either (Kept g) _ _ _ (λ _. (refl, refl)) (λ _. go (g .identity) refl)
+    where
+      go : (o : Option (List ℕ)) → g .identity ≡ o → Kept g (renameWith log l g o)
+      go none e = (refl, refl)
+      go (some i) e = (refl, sym e)
+
+  act-kept : (since : ℕ → ℕ → ℕ) (c : Call) (g : Station) → Kept g (act since most c g)
+  unfolding act logCall logEntry requestCall frameCall reportCall serveListed
+  act-kept since (clock t) g = (refl, refl)
+  act-kept since (logging t e) g = either (Kept g) _ _ _ (λ _. (refl, refl)) (λ _. (refl, refl))
+  act-kept since (frame t d a o) g = either (Kept g) _ _ _ (λ _. (refl, refl)) (λ _. found-kept a _ _ g (find a (g .requesters)))
+  act-kept since (report t a kind b) g = found-kept a _ _ g (find a (g .requesters))
+  act-kept since (roam t l) g = rename-kept (g .log) l g
+  act-kept since (change t l) g = rename-kept [] l g
+
+module _ (k : Clock) (most : Capacities) (g : Station) (c : Call) where
+  pub step-timer : step k most g c .station .timer ≡ advanced k (g .timer) (readingOf c)
+  unfolding step withoutLate timed
+  step-timer = act-kept most (k .since) c (tick k (readingOf c) g) .0
+
+  pub step-identity : step k most g c .station .identity ≡ g .identity
+  unfolding step withoutLate timed
+  step-identity = act-kept most (k .since) c (tick k (readingOf c) g) .1
+
+-- ---- what setup leaves
+
+-- a station with no event and no request
+abbrev pub blank : Timer → Option (List ℕ) → List Address → Station
+blank t i l = record { timer = t; identity = i; log = []; requesters = map newRequester l }
+
+pub setup-blank : (most : Capacities) (i : List ℕ) (l : List Address) → (j : Option (List ℕ)) × (m : List Address) × (setup most i l .station ≡ blank unset j m)
+unfolding setup
+setup-blank most i l =
+    let P : Result → Type 0 = λ (x : Result). (j : Option (List ℕ)) × (m : List Address) × (x .station ≡ blank unset j m) in
+    either P _ _ _ (λ _. (none, [], refl)) (λ _. either P _ _ _ (λ _. (none, [], refl)) (λ _. (some i, l, refl)))
+
+pub setup-unset : (most : Capacities) (i : List ℕ) (l : List Address) → setup most i l .station .timer ≡ unset
+setup-unset most i l = ap (λ (g : Station). g .timer) (setup-blank most i l .2)
