@@ -15,7 +15,7 @@ use Rattle.model.specs.Model.{standard, Address, Call, clock, frame, report, Re
 use Rattle.model.specs.Model.{Station as Model·Station}
 use Rattle.model.specs.Stations.{setup, timed, readingOf, step}
 use Rattle.model.specs.Refusals.{lentBuffer}
-use Rattle.model.specs.Runs.{run, Always, sender, Reply, reply, toSender}
+use Rattle.model.specs.Runs.{run, HandedIn, Always, sender, Reply, reply, toSender}
 use Rattle.model.specs.Independence.{answers, BelowTop}
 use Rattle.model.specs.Agreement.{replies}
 use Rattle.model.specs.Sound.{loggingCall}
@@ -30,7 +30,7 @@ use Rattle.station.specs.declared.Station.{Station}
 use Rattle.station.specs.declared.Outcome.{Outcome}
 use Rattle.station.specs.Views.{view, viewOutcome}
 use Rattle.demands.specs.StationRoundTrip.{WellFormed, RoundTrip}
-use Rattle.demands.specs.Chains.{Made, HandedIn, Allowed, Chain, none-made, made, SetUp}
+use Rattle.demands.specs.Chains.{Made, Allowed, Chain, none-made, made, SetUp}
 use Rattle.demands.specs.Demands.{CodeLeftAlone, Total, CodeLeftUnnamed, TotalSetup, callOf, Exact, answered, replied, ShortOfTop, IndependentRequesters, IndependentShortChain, AnswersAsBefore, TimeIsTrue, givenTo, GivesNewestFirst}
 use Rattle.demands.proofs.StationRoundTrip.{station-round-trip}
 
