@@ -263,7 +263,7 @@ module _ (k : Clock) (most : Capacities) (kind : Kind) (s : Address) (n : ℕ) w
     call = c;
     later = cs;
     split = refl;
-    stays = tt;
+    stayed = tt;
     over = o;
     few = omega (arith, frames-one kind s c (step k most g c .answer));
   }
@@ -276,7 +276,7 @@ module _ (k : Clock) (most : Capacities) (kind : Kind) (s : Address) (n : ℕ) w
     call = o .call;
     later = o .later;
     split = ap (λ (l : List Call). c ∷ l) (o .split);
-    stays = (e, o .stays);
+    stayed = (e, o .stayed);
     over = o .over;
     few = omega (arith, o .few);
   }

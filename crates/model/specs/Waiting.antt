@@ -110,7 +110,7 @@ pub record OverIn (k : Clock) (most : Capacities) (kind : Kind) (s : Address) (n
   pub call : Call
   pub later : List Call
   pub split : cs ≡ earlier ++ (call ∷ later)
-  pub stays : EachCall (Stays k most kind s n) k most g earlier
+  pub stayed : EachCall (Stays k most kind s n) k most g earlier
   pub over : IsOver k most kind s (run k most g earlier) call
   pub few : framesGiven k most kind s g (earlier ++ (call ∷ [])) ≤ bound
 
