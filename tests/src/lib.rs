@@ -1,4 +1,4 @@
-//! A separately written reader and gate for document 01 and requests (a) and (c) of document 02, and the
+//! A separately written reader and gate for document 01 and requests (a), (c) and (d) of document 02, and the
 //! differential tests made with it.
 
 // The reader and the gate.
