@@ -28,6 +28,7 @@ pub mod make_identity;
 pub mod make_reports;
 pub mod make_requests;
 pub mod make_traces;
+pub mod order_cases;
 pub mod random;
 
 // The runner.
