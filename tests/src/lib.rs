@@ -37,6 +37,7 @@ pub mod answers;
 pub mod compare;
 pub mod covered;
 pub mod independence;
+pub mod order;
 pub mod phases;
 pub mod program;
 pub mod read_back;
