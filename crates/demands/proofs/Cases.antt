@@ -22,7 +22,7 @@ use Rattle.events.specs.Transitions.{transitionBody}
 use Rattle.events.specs.RsnaEvents.{rsnaBody}
 use Rattle.events.specs.PeerLinks.{peerLinkBody}
 use Rattle.events.specs.Log.{pushed}
-use Rattle.events.specs.Choice.{firstOf, nextPlace}
+use Rattle.events.specs.Choice.{lastOf}
 use Rattle.events.specs.Conditions.{asked, transitionMeets, rsnaMeets, channelMet, peerLinkMeets, typeMeets, meetsAt, meets}
 use Rattle.identities.specs.Identity.{stands, passRow, goodFrom, goodIdentity}
 use Rattle.reports.specs.Reports.{reportElement, eventElement}
@@ -86,7 +86,7 @@ after kind n = step elapsedClock standard gate (report 13 someConsole kind (zero
 
 -- a transition of 35 octets, a login of 26 and a link of 27; and the identity behind five
 both-given : after Event 91 × after Diagnostic 25
-unfolding zeros someIdentity someConsole slowTransition login link calls if_then_else_ repeatWhile same octetsAt pieceEnd inRange goodDate goodClock goodTime wholeStep Subelements·step walk subelementsOf subelementsStart any badToken withElement ownRequestStep elementStep walkElements frameKind frameCause requestOf headerCause readRequest pushed lengthOf bodyOctet bodyAt transitionBody rsnaBody peerLinkBody entryWith firstOf nextPlace asked transitionMeets rsnaMeets channelMet peerLinkMeets typeMeets meetsAt meets stands passRow goodFrom goodIdentity reportElement eventElement repeated badList newRequester find put replace fillWith fill nextFrame eventTreatment openEvents takeEvents nextEventPlace gave without reportFront treatFront nextFrom nextEvent unlessDone diagnosticTreatment isLate onTime unlessOver dropLate diagnosticsOf takeDiagnostics diagnosticReport nextDiagnostic elapsedAt setup timed tickRequester withoutLate logRequester logEntry logCause logCall withRequester serveFound serveListed takeKind takeRequest requestCall frameCall giveEvents giveDiagnostics ifOutstanding octetsOf giveKind giveReport reportCall act readingOf step run
+unfolding zeros someIdentity someConsole slowTransition login link calls if_then_else_ repeatWhile same octetsAt pieceEnd inRange goodDate goodClock goodTime wholeStep Subelements·step walk subelementsOf subelementsStart any badToken withElement ownRequestStep elementStep walkElements frameKind frameCause requestOf headerCause readRequest pushed lengthOf bodyOctet bodyAt transitionBody rsnaBody peerLinkBody entryWith lastOf asked transitionMeets rsnaMeets channelMet peerLinkMeets typeMeets meetsAt meets stands passRow goodFrom goodIdentity reportElement eventElement repeated badList newRequester find put replace fillWith fill nextFrame eventTreatment openEvents takeEvents nextEventPlace gave without reportFront treatFront nextFrom nextEvent unlessDone diagnosticTreatment isLate onTime unlessOver dropLate diagnosticsOf takeDiagnostics diagnosticReport nextDiagnostic elapsedAt setup timed tickRequester withoutLate logRequester logEntry logCause logCall withRequester serveFound serveListed takeKind takeRequest requestCall frameCall giveEvents giveDiagnostics ifOutstanding octetsOf giveKind giveReport reportCall act readingOf step run
 both-given = (refl, refl)
 
 -- the logged events have their lengths, so both reports are read back

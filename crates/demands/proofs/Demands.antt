@@ -2,7 +2,7 @@
 -- Assumes nothing.
 use Prim.Native.Nat.{ℕ}
 use mathlib.Core.Path.{_≡_, refl, sym, ap, _∙_}
-use mathlib.Core.List.{List, [], _∷_, map}
+use mathlib.Core.List.{List, [], _∷_, _++_, map, flatten}
 use mathlib.Core.Option.{Option, none, some}
 use lib.ListN.{length-map}
 use Rattle.laws.specs.Members.{Among, first, later, All, nil, also}
@@ -11,7 +11,7 @@ use Rattle.octets.specs.declared.numbers.Kind.{Kind}
 use Rattle.octets.specs.declared.refusals.Refusal.{Refusal}
 use Rattle.events.specs.Loggings.{Logging, EventLengths}
 use Rattle.model.specs.Clocks.{elapsedClock}
-use Rattle.model.specs.Model.{standard, Address, Call, clock, report, Result, ofLength, turnedAway}
+use Rattle.model.specs.Model.{standard, Address, Call, clock, frame, report, Result, ofLength, turnedAway}
 use Rattle.model.specs.Model.{Station as Model·Station}
 use Rattle.model.specs.Stations.{setup, timed, readingOf, step}
 use Rattle.model.specs.Refusals.{lentBuffer}
@@ -19,9 +19,11 @@ use Rattle.model.specs.Runs.{run, Always, sender, Reply, reply, toSender}
 use Rattle.model.specs.Independence.{answers, BelowTop}
 use Rattle.model.specs.Agreement.{replies}
 use Rattle.model.specs.Sound.{loggingCall}
+use Rattle.model.specs.NewestFirst.{eventsOf, eventsGiven}
 use Rattle.model.proofs.Refusals.{refused-call, refused-setup}
 use Rattle.model.proofs.CallLaws.{step-timer}
 use Rattle.model.proofs.Premise.{elapsed-is-true}
+use Rattle.model.proofs.NewestFirst.{newest-first}
 use Rattle.model.proofs.Independence.{independent, independent-short-run}
 use Rattle.model.proofs.Agreement.{old-and-new-agree}
 use Rattle.station.specs.declared.Station.{Station}
@@ -29,7 +31,7 @@ use Rattle.station.specs.declared.Outcome.{Outcome}
 use Rattle.station.specs.Views.{view, viewOutcome}
 use Rattle.demands.specs.StationRoundTrip.{WellFormed, RoundTrip}
 use Rattle.demands.specs.Chains.{Made, HandedIn, Allowed, Chain, none-made, made, SetUp}
-use Rattle.demands.specs.Demands.{CodeLeftAlone, Total, CodeLeftUnnamed, TotalSetup, callOf, Exact, answered, replied, ShortOfTop, IndependentRequesters, IndependentShortChain, AnswersAsBefore, TimeIsTrue}
+use Rattle.demands.specs.Demands.{CodeLeftAlone, Total, CodeLeftUnnamed, TotalSetup, callOf, Exact, answered, replied, ShortOfTop, IndependentRequesters, IndependentShortChain, AnswersAsBefore, TimeIsTrue, givenTo, GivesNewestFirst}
 use Rattle.demands.proofs.StationRoundTrip.{station-round-trip}
 
 -- ---- what an allowed call gives is what the model gives
@@ -147,3 +149,18 @@ answers-as-before i l o ms g s c young =
 pub time-is-true : TimeIsTrue
 time-is-true i l o ms g s c t ts apart readings =
     ap (λ (x : Model·Station). x .timer .now) (run-from-setup i l o s c) ∙ elapsed-is-true standard i l (map callOf ms) t ts apart readings
+
+-- ---- document 02 (d)
+
+chain-given : (s : Address) {g h : Station} {ms : List Made} → Chain g ms h → givenTo s ms ≡ eventsGiven elapsedClock standard s (view g) (map callOf ms)
+unfolding flatten eventsGiven reply viewOutcome
+chain-given s none-made = refl
+chain-given s (made {g = g} {m = m} {ms = ms} a c) =
+    let here : answered m ≡ reply elapsedClock standard (view g) (m .call) = rw (answer-is a, buffer-is a) in
+    let there : givenTo s ms ≡ eventsGiven elapsedClock standard s (step elapsedClock standard (view g) (m .call) .station) (map callOf ms) = chain-given s c ∙ ap (λ (x : Model·Station). eventsGiven elapsedClock standard s x (map callOf ms)) (station-is a) in
+    rw (here, there)
+
+pub gives-newest-first : GivesNewestFirst
+gives-newest-first g m ms h a c t d s o is opens lets =
+    let after : view (m .outcome .station) ≡ step elapsedClock standard (view g) (frame t d s o) .station = station-is a ∙ ap (λ (x : Call). step elapsedClock standard (view g) x .station) is in
+    rw (chain-given s c, chain-run c, after) (newest-first elapsedClock standard (view g) t d s o (map callOf ms) opens lets)

@@ -1,22 +1,26 @@
--- The three demands and document 02 (c), said of the code: for every chain of stations and answers in which each is what its method's contract allows of the
+-- The three demands and document 02 (c) and (d), said of the code: for every chain of stations and answers in which each is what its method's contract allows of the
 -- one before, the first from setup. Their proofs are in proofs/Demands.antt.
 -- Assumes nothing.
 use Prim.Native.Nat.{ℕ, _-_, _%_, _<_, min}
 use mathlib.Core.Path.{_≡_}
-use mathlib.Core.List.{List, _∷_, map}
+use mathlib.Core.List.{List, _∷_, map, flatten}
 use mathlib.Core.Option.{Option}
-use lib.ListN.{length}
+use lib.ListN.{length, take}
 use Rattle.laws.specs.Members.{All}
-use Rattle.units.specs.Time.{turn, elapsedTop}
+use Rattle.units.specs.Time.{turn, elapsedTop, elapsedSince}
 use Rattle.octets.specs.declared.numbers.Kind.{Kind}
+use Rattle.octets.specs.declared.numbers.Kind.the-variants.{Event}
 use Rattle.octets.specs.declared.refusals.Refusal.{Refusal}
+use Rattle.requests.specs.Requests.{readRequest}
 use Rattle.model.specs.Clocks.{counterClock, elapsedClock}
-use Rattle.model.specs.Model.{standard, Address, Call, clock, report, ofLength, turnedAway}
+use Rattle.model.specs.Model.{standard, Address, Call, clock, frame, report, ofLength, turnedAway}
+use Rattle.model.specs.Outstanding.{outstandingDialog}
 use Rattle.model.specs.Stations.{setup, tick, readingOf, nobody}
 use Rattle.model.specs.Refusals.{lentBuffer, causesOf, setupCauses, RefusedBy}
 use Rattle.model.specs.Runs.{Always, sender, Reply, toSender}
 use Rattle.model.specs.Independence.{from, freshAnswers}
 use Rattle.model.specs.Agreement.{replies, Young}
+use Rattle.model.specs.NewestFirst.{requestReports, eventsOf, OpensEvents, LetsBe, GivenInOrder}
 use Rattle.model.specs.Premise.{LessThanTurnApart, latest}
 use Rattle.requesters.specs.Views.{viewAnswer}
 use Rattle.station.specs.declared.Station.{Station}
@@ -96,3 +100,18 @@ TimeIsTrue =
     (i : List ℕ) (l : List Address) (o : Outcome) (ms : List Made) (g : Station) → SetUp i l o → Chain (o .station) ms g
     → (t : ℕ) (ts : List ℕ) → LessThanTurnApart t ts → map readingOf (map callOf ms) ≡ map (λ u. u % turn) (t ∷ ts)
     → view g .timer .now ≡ min elapsedTop (latest t ts - t)
+
+-- ---- document 02 (d)
+
+-- what the report calls of s for events gave, one frame behind the other
+abbrev pub givenTo : Address → List Made → List ℕ
+givenTo s ms = flatten (map (λ m. eventsOf s (m .call) (answered m)) ms)
+
+-- "a limit of 3 now gives the latest three that match, or all if fewer": behind a frame call m that opens an event request
+abbrev pub GivesNewestFirst : Type 0
+GivesNewestFirst =
+    (g : Station) (m : Made) (ms : List Made) (h : Station) → Allowed g m → Chain (m .outcome .station) ms h
+    → (t : ℕ) (d s : Address) (o : List ℕ) → m .call ≡ frame t d s o → OpensEvents elapsedClock standard (view g) t d s o → All (LetsBe s) (map callOf ms)
+    → let q = readRequest (standard .elements) o in
+    let log = view g .log in
+    GivenInOrder (requestReports elapsedSince log (length log) (take (q .count) (q .elements))) (givenTo s ms) (outstandingDialog Event s (view h))

@@ -11,5 +11,6 @@ pub mod Agreement
 pub mod NextEvent
 pub mod Refusals
 pub mod Sound
+pub mod NewestFirst
 pub mod Starred
 pub mod StoredGate

@@ -13,44 +13,44 @@ use Rattle.laws.specs.Choice.{if_then_else_}
 use Rattle.laws.proofs.Choice.{either, never}
 use Rattle.requests.specs.declared.Element.{Element}
 use Rattle.events.specs.declared.Entry.{Entry}
-use Rattle.events.specs.Choice.{nextPlace}
+use Rattle.events.specs.Choice.{lastOf}
 use Rattle.events.specs.Conditions.{meets}
-use Rattle.events.proofs.ChoiceLaws.{First, next-first, next-none, next-none-passes}
+use Rattle.events.proofs.ChoiceLaws.{Last, last-some, none-last, last-none}
 use Rattle.model.specs.Model.{EventRequest}
-use Rattle.model.specs.Events.{nextEventPlace}
-use Rattle.model.specs.NextEvent.{Eligible, OldestMatch, NextEvent}
+use Rattle.model.specs.Events.{eligiblePlaces, nextEventPlace}
+use Rattle.model.specs.NextEvent.{Eligible, NewestMatch, NextEvent}
 
 module _ (since : ℕ → ℕ → ℕ) (log : List Entry) (r : EventRequest) (x : Element) where
   abbrev test : ℕ → Bool
   test = meets since log (x .ty) (x .filter)
 
-  abbrev end : ℕ
-  end = min (r .mark) (length log)
+  eligible : (q : ℕ) → q < eligiblePlaces log r → Eligible log r q
+  eligible q a = record { logged = omega (arith, a); accepted = omega (arith, a); older = omega (arith, a) }
 
-  eligible : (q : ℕ) → r .start ≤ q → q < end → Eligible log r q
-  eligible q a b = record { logged = omega (arith, b); accepted = omega (arith, b); later = a }
+  within : (q : ℕ) → Eligible log r q → q < eligiblePlaces log r
+  within q e = omega (arith, e .logged, e .accepted, e .older)
 
-  first-match : (p : ℕ) → r .given < x .limit → First test (r .start) end p → OldestMatch since log r x p
-  first-match p l f = record {
+  last-match : (p : ℕ) → r .given < x .limit → Last test (eligiblePlaces log r) p → NewestMatch since log r x p
+  last-match p l f = record {
     limit = l;
-    eligible = eligible p (f .after) (f .within);
+    eligible = eligible p (f .within);
     matches = f .passes;
-    oldest = λ q e h. f .first q (e .later) h;
+    newest = λ q e h. f .last q h (within q e);
   }
 
-  given : (p : ℕ) → nextEventPlace since log r x ≡ some p → OldestMatch since log r x p
+  given : (p : ℕ) → nextEventPlace since log r x ≡ some p → NewestMatch since log r x p
   unfolding nextEventPlace
   given p =
-      either (λ (o : Option ℕ). o ≡ some p → OldestMatch since log r x p) _ _ _
-      (λ l e. first-match p (ltb-true (r .given) (x .limit) l) (next-first test (r .start) end p e)) (λ _ e. never cc)
+      either (λ (o : Option ℕ). o ≡ some p → NewestMatch since log r x p) _ _ _
+      (λ l e. last-match p (ltb-true (r .given) (x .limit) l) (last-some test (eligiblePlaces log r) p e)) (λ _ e. never cc)
 
   -- below the limit the choice is that of the places
-  below : r .given < x .limit → nextEventPlace since log r x ≡ nextPlace test (r .start) end
+  below : r .given < x .limit → nextEventPlace since log r x ≡ lastOf test (eligiblePlaces log r)
   unfolding nextEventPlace if_then_else_
   below l = rw (lt-ltb (r .given) (x .limit) l)
 
   none-left : nextEventPlace since log r x ≡ none → r .given < x .limit → (q : ℕ) → Eligible log r q → test q ≡ false
-  none-left e l q h = next-none-passes test (r .start) end q (sym (below l) ∙ e) (h .later) (omega (arith, h .accepted, h .logged))
+  none-left e l q h = last-none test (eligiblePlaces log r) q (sym (below l) ∙ e) (within q h)
 
   over : x .limit ≤ r .given → nextEventPlace since log r x ≡ none
   unfolding nextEventPlace if_then_else_
@@ -59,21 +59,21 @@ module _ (since : ℕ → ℕ → ℕ) (log : List Entry) (r : EventRequest) (x 
   unmatched : ((q : ℕ) → Eligible log r q → test q ≡ false) → nextEventPlace since log r x ≡ none
   unfolding nextEventPlace
   unmatched f =
-      either (λ (o : Option ℕ). o ≡ none) _ _ _ (λ _. next-none test (r .start) end (λ q a b. f q (eligible q a b))) (λ _. refl)
+      either (λ (o : Option ℕ). o ≡ none) _ _ _ (λ _. none-last test (eligiblePlaces log r) (λ q a. f q (eligible q a))) (λ _. refl)
 
-  -- two oldest matches are one
-  one : (p q : ℕ) → OldestMatch since log r x p → OldestMatch since log r x q → q < p → false ≡ true
-  one p q m n h = sym (m .oldest q (n .eligible) h) ∙ n .matches
+  -- two newest matches are one
+  one : (p q : ℕ) → NewestMatch since log r x p → NewestMatch since log r x q → p < q → false ≡ true
+  one p q m n h = sym (m .newest q (n .eligible) h) ∙ n .matches
 
-  same-match : (p q : ℕ) → OldestMatch since log r x p → OldestMatch since log r x q → q ≡ p
+  same-match : (p q : ℕ) → NewestMatch since log r x p → NewestMatch since log r x q → q ≡ p
   same-match p q m n = by (ltb q p) refl (ltb p q) refl
     where
       by : (a : Bool) → ltb q p ≡ a → (b : Bool) → ltb p q ≡ b → q ≡ p
-      by true a b _ = never (one p q m n (ltb-true q p a))
-      by false a true b = never (one q p n m (ltb-true p q b))
+      by true a b _ = never (one q p n m (ltb-true q p a))
+      by false a true b = never (one p q m n (ltb-true p q b))
       by false a false b = omega (arith, ltb-false q p a, ltb-false p q b)
 
-  only : (p : ℕ) → OldestMatch since log r x p → nextEventPlace since log r x ≡ some p
+  only : (p : ℕ) → NewestMatch since log r x p → nextEventPlace since log r x ≡ some p
   only p m = by (nextEventPlace since log r x) refl
     where
       by : (o : Option ℕ) → nextEventPlace since log r x ≡ o → o ≡ some p

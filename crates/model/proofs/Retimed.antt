@@ -24,9 +24,8 @@ use Rattle.requests.specs.Requests.{readRequest}
 use Rattle.events.specs.declared.Entry.{Entry}
 use Rattle.events.specs.Log.{pushed, pastLog, typeOf, stampOf}
 use Rattle.events.specs.Loggings.{LoggedEvent, entryWith, entryOf}
-use Rattle.events.specs.Choice.{firstOf, nextPlace}
 use Rattle.events.specs.Conditions.{condition, isNear, recentIn, typeMeets, meetsAt, meets}
-use Rattle.events.proofs.ChoiceLaws.{count-same}
+use Rattle.events.proofs.ChoiceLaws.{last-same, count-same}
 use Rattle.events.proofs.ConditionLaws.{not-counted}
 use Rattle.units.specs.Time.{exceeds}
 use Rattle.reports.specs.Reports.{eventElement}
@@ -39,7 +38,7 @@ use Rattle.model.specs.Dialogs.{replace}
 use Rattle.model.specs.Requesters.{newRequester, find, put, badList}
 use Rattle.model.specs.Fill.{Piece, fillWith, fill, nextFrame}
 use Rattle.model.specs.Diagnostics.{isLate, onTime, unlessOver, dropLate, holdsCancel, diagnosticsOf, takeDiagnostics}
-use Rattle.model.specs.Events.{eventTreatment, nextEventPlace, reportFront, treatFront, nextFrom, nextEvent, gave, without}
+use Rattle.model.specs.Events.{eventTreatment, eligiblePlaces, nextEventPlace, reportFront, treatFront, nextFrom, nextEvent, gave, without}
 use Rattle.model.specs.Stations.{result, refusedFor, tickRequester, withoutLate, lowerRequester, logRequester, logEntry, logCause, logCall, Served, served, withRequester, serveFound, serveListed, takeKind, takeRequest, requestCall, frameCall, room, giveEvents, giveDiagnostics, ifOutstanding, octetsOf, giveKind, giveReport, reportCall, renameWith, rename, act}
 use Rattle.model.specs.Ages.{asksFrequent, OfRequest, OfDrop, OfLog, OfEvents, OfKind, OfReport, OfCall}
 use Rattle.model.proofs.Seen.{find-map}
@@ -207,12 +206,6 @@ module _ (f : ℕ → ℕ) where
 
     -- ---- event reports
 
-    first-same : (t u : ℕ → Bool) (n p : ℕ) → ((q : ℕ) → p ≤ q → q < p + n → t q ≡ u q) → firstOf t n p ≡ firstOf u n p
-    unfolding firstOf
-    first-same t u zero p e = refl
-    first-same t u (suc n) p e =
-        rw (e p (omega arith) (omega arith), first-same t u n (suc p) (λ q a b. e q (omega arith) (omega arith)))
-
     module _ (log : List Entry) where
       recent-by : (mark : ℕ) → OfLog Agree mark log → (p : ℕ) → p < min mark (length log) → typeOf (getD log p pastLog) ≡ 0
           → recentIn since (map typeOf (map entryBy log)) (map stampOf (map entryBy log)) 0 p ≡ recentIn since′ (map typeOf log) (map stampOf log) 0 p
@@ -283,12 +276,11 @@ module _ (f : ℕ → ℕ) where
           go false = e
 
       place-by : (r : EventRequest) (x : Element) → (asksFrequent x ≡ true → OfLog Agree (r .mark) log) → nextEventPlace since (map entryBy log) r x ≡ nextEventPlace since′ log r x
-      unfolding nextEventPlace nextPlace
+      unfolding nextEventPlace
       place-by r x n =
           rw (
             length-map log entryBy,
-            first-same (meets since (map entryBy log) (x .ty) (x .filter)) (meets since′ log (x .ty) (x .filter)) (min (r .mark) (length log) - r .start) (r .start)
-                (λ q a b. meets-by (r .mark) x n q (omega arith)),
+            last-same (meets since (map entryBy log) (x .ty) (x .filter)) (meets since′ log (x .ty) (x .filter)) (eligiblePlaces log r) (λ q a. meets-by (r .mark) x n q (omega arith)),
           )
 
       front-by : (r : EventRequest) (x : Element) (xs : List Element) (behind : Option (Piece EventRequest)) (o : Option ℕ)

@@ -78,7 +78,7 @@ pub record Seen : Type 0 where
   pub log : List Entry
   pub slot : Option Requester
 
-pub seen : Address → Station → Seen
+unfoldable pub seen : Address → Station → Seen
 seen s g = record { timer = g .timer; identity = g .identity; log = g .log; slot = find s (g .requesters) }
 
 abbrev withSlot : Seen → Option Requester → Seen
@@ -87,28 +87,28 @@ withSlot v o = record { timer = v .timer; identity = v .identity; log = v .log; 
 abbrev onSlot : (Requester → Requester) → Seen → Seen
 onSlot f v = withSlot v (Option·map f (v .slot))
 
-tickSeen : Clock → ℕ → Seen → Seen
+unfoldable pub tickSeen : Clock → ℕ → Seen → Seen
 tickSeen k reading v =
     let t = advanced k (v .timer) reading in
     record { timer = t; identity = v .identity; log = v .log; slot = Option·map (tickRequester (k .since) (t .now)) (v .slot) }
 
-logSeen : Capacities → ℕ → LoggedEvent → Seen → Seen
+pub logSeen : Capacities → ℕ → LoggedEvent → Seen → Seen
 logSeen most reading e v =
     if not (eqb (logCause e) 0) then v
     else record { timer = v .timer; identity = v .identity; log = pushed (most .events) (v .log) (entryOf (v .timer .now) reading e); slot = Option·map (logRequester most (v .log)) (v .slot) }
 
-servedSeen : Address → Address → (Requester → Served) → Seen → Seen
+unfoldable pub servedSeen : Address → Address → (Requester → Served) → Seen → Seen
 servedSeen s a serve v = if same a s then onSlot (λ r. serve r .requester) v else v
 
 renamedSeen : Address → List Entry → List Address → Seen → Option (List ℕ) → Seen
 renamedSeen s log l v none = v
 renamedSeen s log l v (some i) = record { timer = v .timer; identity = some i; log = log; slot = find s (map newRequester l) }
 
-renameSeen : Capacities → Address → List Entry → List Address → Seen → Seen
+pub renameSeen : Capacities → Address → List Entry → List Address → Seen → Seen
 renameSeen most s log l v = if badList (most .requesters) l then v else renamedSeen s log l v (v .identity)
 
 -- what a call makes of it, the late diagnostics dropped
-actSeen : Clock → Capacities → Address → Call → Seen → Seen
+unfoldable pub actSeen : Clock → Capacities → Address → Call → Seen → Seen
 actSeen k most s (clock t) v = v
 actSeen k most s (logging t e) v = logSeen most t e v
 actSeen k most s (frame t d a o) v = if isGroup d then v else servedSeen s a (takeRequest (v .timer .now) (v .log) (readRequest (most .elements) o)) v
@@ -116,7 +116,7 @@ actSeen k most s (report t a kind b) v = servedSeen s a (giveReport (k .since) (
 actSeen k most s (roam t l) v = renameSeen most s (v .log) l v
 actSeen k most s (change t l) v = renameSeen most s [] l v
 
-pub stepSeen : Clock → Capacities → Address → Call → Seen → Seen
+unfoldable pub stepSeen : Clock → Capacities → Address → Call → Seen → Seen
 stepSeen k most s c v = actSeen k most s c (tickSeen k (readingOf c) v)
 
 -- ---- every piece keeps the address
@@ -264,12 +264,12 @@ quiet-step k most s (change t l) v = refl
 abbrev replyOf : Result → Reply
 replyOf x = record { answer = x .answer; buffer = x .buffer }
 
-servedReply : (Requester → Served) → List ℕ → Option Requester → Reply
+unfoldable pub servedReply : (Requester → Served) → List ℕ → Option Requester → Reply
 servedReply serve b none = record { answer = refusedFor unknownRequester; buffer = b }
 servedReply serve b (some r) = record { answer = serve r .answer; buffer = serve r .buffer }
 
 -- of a call that has a sender
-seenReply : Clock → Capacities → Call → Seen → Reply
+unfoldable pub seenReply : Clock → Capacities → Call → Seen → Reply
 seenReply k most (frame t d a o) v =
     if isGroup d then record { answer = refusedFor groupDestination; buffer = [] }
     else servedReply (takeRequest (v .timer .now) (v .log) (readRequest (most .elements) o)) [] (v .slot)
@@ -279,7 +279,7 @@ seenReply k most (logging t e) v = record { answer = accepted; buffer = [] }
 seenReply k most (roam t l) v = record { answer = accepted; buffer = [] }
 seenReply k most (change t l) v = record { answer = accepted; buffer = [] }
 
-pub stepReply : Clock → Capacities → Call → Seen → Reply
+unfoldable pub stepReply : Clock → Capacities → Call → Seen → Reply
 stepReply k most c v = seenReply k most c (tickSeen k (readingOf c) v)
 
 reply-found : (a : Address) (serve : Requester → Served) (b : List ℕ) (g : Station) (o : Option Requester)

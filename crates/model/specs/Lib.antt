@@ -1,6 +1,7 @@
 pub mod Clocks
 pub mod Model
 pub mod Requesters
+pub mod Outstanding
 pub mod Dialogs
 pub mod Fill
 pub mod Diagnostics
@@ -10,6 +11,7 @@ pub mod Stations
 pub mod Refusals
 pub mod Runs
 pub mod Sound
+pub mod NewestFirst
 pub mod Independence
 pub mod Ages
 pub mod Agreement

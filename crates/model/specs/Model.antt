@@ -32,12 +32,12 @@ abbrev pub Address : Type 0
 Address = List ℕ
 
 -- an outstanding event request: its dialog token; how many places of the log, from the oldest, were logged before acceptance; its
--- elements left; and of the front one how many events it gave, and where in the log the search for its next one starts
+-- elements left; and of the front one how many events it gave, and below which place of the log its next one is
 pub record EventRequest : Type 0 where
   pub dialog : ℕ
   pub mark : ℕ
   pub given : ℕ
-  pub start : ℕ
+  pub below : ℕ
   pub elements : List Element
 
 -- an outstanding diagnostic request: its dialog token, the time of its acceptance, its unanswered elements

@@ -40,7 +40,7 @@ fn after_events(r: EventRequest, f: Filled) -> EventRequest
         dialog: r.dialog,
         given: f.after.given,
         mark: r.mark,
-        start: f.after.start,
+        below: f.after.below,
         first: f.after.first,
         count: r.count,
         elements,

@@ -11,7 +11,7 @@ use Rattle.requesters.specs.declared.Requester.{Requester}
 
 -- no request is outstanding, and none has left anything
 abbrev pub blankEvents : EventRequest
-blankEvents = record { outstanding = false; dialog = 0; given = 0; mark = 0; start = 0; first = 0; count = 0; elements = blankElements }
+blankEvents = record { outstanding = false; dialog = 0; given = 0; mark = 0; below = 0; first = 0; count = 0; elements = blankElements }
 
 abbrev pub blankDiagnostic : Diagnostic
 blankDiagnostic = record { token = 0; ty = 0; timeout = 0 }

@@ -23,10 +23,10 @@ left first count xs = drop first (take count xs)
 
 -- an event request that has come so far
 unfoldable pub eventsAt : Code·EventRequest → Progress → EventRequest
-eventsAt r p = record { dialog = r .dialog; mark = r .mark; given = p .given; start = p .start; elements = left (p .first) (r .count) (r .elements) }
+eventsAt r p = record { dialog = r .dialog; mark = r .mark; given = p .given; below = p .below; elements = left (p .first) (r .count) (r .elements) }
 
 abbrev pub progressOf : Code·EventRequest → Progress
-progressOf r = record { first = r .first; given = r .given; start = r .start }
+progressOf r = record { first = r .first; given = r .given; below = r .below }
 
 unfoldable pub viewEvents : Code·EventRequest → Option EventRequest
 viewEvents r = if r .outstanding then some (eventsAt r (progressOf r)) else none

@@ -19,7 +19,7 @@ use requests::Element;
 use units::Elapsed;
 
 // An event request, where outstanding. Its elements left are those from first to count; the front
-// one gave so many events, and the search for its next one goes on at start. The log's first mark
+// one gave so many events, and its next one is below the place below. The log's first mark
 // places were logged before acceptance. Places outside first to count are free.
 #[repr(C)]
 pub struct EventRequest {
@@ -27,18 +27,18 @@ pub struct EventRequest {
     pub dialog: u8,
     pub given: u8,
     pub mark: usize,
-    pub start: usize,
+    pub below: usize,
     pub first: usize,
     pub count: usize,
     pub elements: [Element; ELEMENT_CAPACITY],
 }
 
 // How far an event request has come: its first element left, how many events that one gave, and
-// where in the log the search for its next one starts.
+// below which place of the log its next one is.
 pub struct Progress {
     pub first: usize,
     pub given: u8,
-    pub start: usize,
+    pub below: usize,
 }
 
 // A diagnostic request, where outstanding, and the time of its acceptance. Its elements left are
