@@ -12,6 +12,7 @@ use crate::make_reports::report_frame;
 use crate::make_requests::{request_frame, Taste};
 use crate::make_traces::trace;
 use crate::octets::Kind;
+use crate::order_cases::order_cases;
 use crate::program::Programs;
 use crate::random::Random;
 use crate::read_back::check_read_back;
@@ -120,8 +121,8 @@ impl Run {
 
 /// The papers' cases and the limits of traces and frames.
 pub fn fixed_inputs() -> Vec<Input> {
-    let cases = cases().into_iter().chain(kind_cases()).chain(clock_cases()).map(|case| case.input);
-    cases.chain(limits()).chain(kind_limits()).collect()
+    let cases = cases().into_iter().chain(kind_cases()).chain(clock_cases()).chain(order_cases());
+    cases.map(|case| case.input).chain(limits()).chain(kind_limits()).collect()
 }
 
 /// Made-up frames: each as the input of `frame` or `report` alone, and all in the records of one trace.
