@@ -30,6 +30,7 @@ pub mod make_requests;
 pub mod make_traces;
 pub mod order_cases;
 pub mod random;
+pub mod script;
 
 // The runner.
 pub mod agreement;
