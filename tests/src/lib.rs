@@ -1,5 +1,5 @@
-//! A separately written reader and gate for document 01 and requests (a), (c) and (d) of document 02, and the
-//! differential tests made with it.
+//! A separately written reader and gate for document 01 and requests (a), (c), (d) and (e) of document 02, and
+//! the differential tests made with it.
 
 // The reader and the gate.
 pub mod clock;
@@ -31,6 +31,7 @@ pub mod make_traces;
 pub mod order_cases;
 pub mod random;
 pub mod script;
+pub mod waiting_cases;
 
 // The runner.
 pub mod agreement;
@@ -44,3 +45,4 @@ pub mod program;
 pub mod read_back;
 pub mod shrink;
 pub mod tally;
+pub mod waiting;
