@@ -1,5 +1,5 @@
-//! A separately written reader and gate for document 01 and requests (a), (c), (d) and (e) of document 02, and
-//! the differential tests made with it.
+//! A separately written reader and gate for document 01 and requests (a), (c) and (d) of document 02, and the
+//! differential tests made with it.
 
 // The reader and the gate.
 pub mod clock;
