@@ -30,6 +30,8 @@ pub mod make_requests;
 pub mod make_traces;
 pub mod order_cases;
 pub mod random;
+pub mod script;
+pub mod waiting_cases;
 
 // The runner.
 pub mod agreement;
@@ -43,3 +45,4 @@ pub mod program;
 pub mod read_back;
 pub mod shrink;
 pub mod tally;
+pub mod waiting;

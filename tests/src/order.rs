@@ -17,24 +17,27 @@ pub struct Due {
 pub struct Order(BTreeMap<Address, Option<u64>>);
 
 impl Order {
-    /// What a report call will give, in order, if all of it fits.
+    /// What a report call will give, in order, and perhaps some more.
     pub fn before(&mut self, station: &Station, record: &Record) -> Vec<Due> {
-        let Record::Report { console, kind: Kind::Event, buffer: 260.., .. } = record else {
+        let Record::Report { console, kind: Kind::Event, buffer: buffer @ 260.., .. } = record else {
             return Vec::new();
         };
         let oldest = station.log().first().map(|event| event.serial);
         let before = self.0.insert(*console, oldest);
         let request = station.event_request(console);
-        request.map_or(Vec::new(), |request| due(request, station.log(), before != Some(oldest)))
+        let dropped = before != Some(oldest);
+        request.map_or(Vec::new(), |request| due(request, station.log(), dropped, *buffer))
     }
 }
 
-/// All that a request has left, as long as the log stays; `dropped`: the oldest event went since its latest
-/// report call.
-fn due(request: &EventRequest, log: &[Event], dropped: bool) -> Vec<Due> {
+/// What a request has left, as long as the log stays, up to so many octets; `dropped`: the oldest event went since
+/// its latest report call.
+fn due(request: &EventRequest, log: &[Event], dropped: bool, octets: usize) -> Vec<Due> {
     let mut rest = request.clone();
-    let mut due = Vec::new();
-    while let Some(next) = rest.next(log) {
+    let (mut due, mut written) = (Vec::new(), 0);
+    while let Some(next) = rest.next(log).filter(|_| written < octets) {
+        // ID, length, token, type, status, and what is behind them.
+        written += 5 + rest.report(&next).1.len();
         let element = &rest.elements[next.index];
         let shows = match next.what {
             What::Event(event) => {

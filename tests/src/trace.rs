@@ -10,7 +10,7 @@ use crate::refusal::Refusal;
 use crate::report::ReportFrame;
 use crate::request::{write_request, Wanted};
 use crate::rsna::RsnaLogging;
-use crate::station::{Answer, Logging, Station};
+use crate::station::{Answer, Logging, Outstanding, Station};
 use crate::transition::{Time, Transition};
 
 /// "at most 262,144 octets in all".
@@ -365,12 +365,13 @@ pub fn hexadecimal(octets: &[u8]) -> String {
 }
 
 /// What a trace gives: the text that `replay` prints, what the gate chose for each frame that it gave, behind
-/// each record the longest age taken since setup, and the cases that the trace had.
+/// each record the longest age taken since setup and the requests outstanding, and the cases that the trace had.
 #[derive(Default)]
 pub struct Replayed {
     pub printed: String,
     pub chosen: Vec<ReportFrame>,
     pub ages: Vec<u128>,
+    pub outstanding: Vec<Vec<Outstanding>>,
     pub covered: Covered,
 }
 
@@ -440,6 +441,7 @@ pub fn run_trace(rule: Rule, input: &[u8]) -> Replayed {
         replayed.covered.ordered(&due, chosen.as_ref());
         replayed.chosen.extend(chosen);
         replayed.ages.push(station.longest_age());
+        replayed.outstanding.push(station.outstanding());
         replayed.printed += &printed;
         at += length;
     }
