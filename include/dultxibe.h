@@ -167,7 +167,8 @@ struct dultxibe_outcome dultxibe_frame(struct dultxibe_station station, uint32_t
 
 /* Writes the next report frame of a kind for a requester at the front of the buffer. The length of
  * the frame, at most 2,304, octets past it as they were; or nothing; or refused by UNKNOWN_REQUESTER
- * or SHORT_BUFFER, the buffer as it was. */
+ * or SHORT_BUFFER, the buffer as it was. Elements go in the request's order, the events of each newest
+ * first; what does not fit is left for the next call. */
 struct dultxibe_outcome dultxibe_report(struct dultxibe_station station, uint32_t reading,
                                         const uint8_t requester[6], uint8_t kind, uint8_t *buffer,
                                         size_t length);

@@ -1,11 +1,12 @@
-//! What a trace had of requests (a) and (c) of document 02, counted beside the second gate's run of it: a case
-//! that no trace had could not have failed.
+//! What a trace had of requests (a), (c) and (d) of document 02, counted beside the second gate's run of it: a
+//! case that no trace had could not have failed.
 
 use crate::clock::{age, TURN};
 use crate::condition::{is_near, transitions, Condition};
 use crate::event_body::{is_reported, EventBody};
 use crate::event_request::Event;
 use crate::octets::{part_at, Kind, HEADER};
+use crate::order::Due;
 use crate::report::{read_report, ReportElement, ReportFrame, Rest};
 use crate::request::{count_subelements, read_request, RequestElement, Wanted};
 use crate::rsna::{rsn_is_good, EapMethod, RsnaLogging};
@@ -17,8 +18,8 @@ use std::collections::BTreeMap;
 /// The event types 0, 1 and 2.
 const KINDS: [&str; 3] = ["transition", "RSNA event", "peer link"];
 
-/// What every kind must have had: logged, asked for, reported, written, read.
-const OF_EVERY_KIND: [&str; 18] = [
+/// What every kind must have had: logged, asked for, reported, in order, written, read.
+const OF_EVERY_KIND: [&str; 25] = [
     "logged",
     "logging refused by 14",
     "dropped for one of its kind",
@@ -30,6 +31,13 @@ const OF_EVERY_KIND: [&str; 18] = [
     "subelement repeated (8)",
     "reported",
     "none to report",
+    "behind a newer one",
+    "behind a newer one with its stamp",
+    "continued by another call",
+    "continued, the oldest dropped meanwhile",
+    "a newer one logged after acceptance",
+    "the last of the limit, an older one left",
+    "no older than the last of an element before",
     "request written",
     "read",
     "read without event",
@@ -106,10 +114,11 @@ const CALLS: [&str; 11] = [
 ];
 
 /// Logs, frames and traces as a whole.
-const WHOLES: [&str; 7] = [
+const WHOLES: [&str; 8] = [
     "full log of three kinds at a report call",
     "frame with events of three kinds",
     "frame of 2,304 octets",
+    "bare header, the rest dropped",
     "trace refused at 07",
     "trace refused at 08",
     "trace refused at 10 with conditions of type 1",
@@ -174,6 +183,9 @@ impl Covered {
         let Record::Report { console, kind: Kind::Event, buffer: 260.., .. } = record else { return };
         let Some(request) = station.event_request(console) else { return };
         let log = station.log();
+        if request.next(log).is_none() && !request.elements.is_empty() {
+            self.saw_whole("bare header, the rest dropped");
+        }
         if log.len() == 64 && (0..3).all(|ty| log.iter().any(|event| event.body.ty() == ty)) {
             self.saw_whole("full log of three kinds at a report call");
         }
@@ -283,6 +295,14 @@ impl Covered {
         }
         if let Some(frame) = chosen {
             self.given(frame, printed);
+        }
+    }
+
+    /// The order of what was given, of all that was due.
+    pub fn ordered(&mut self, due: &[Due], chosen: Option<&ReportFrame>) {
+        let given = chosen.map_or(0, |frame| frame.elements.len());
+        for Due { ty, shows } in due.iter().take(given) {
+            shows.iter().for_each(|what| self.saw_kind(*ty, what));
         }
     }
 

@@ -1,4 +1,4 @@
-//! A separately written reader and gate for document 01 and requests (a) and (c) of document 02, and the
+//! A separately written reader and gate for document 01 and requests (a), (c) and (d) of document 02, and the
 //! differential tests made with it.
 
 // The reader and the gate.
@@ -28,7 +28,10 @@ pub mod make_identity;
 pub mod make_reports;
 pub mod make_requests;
 pub mod make_traces;
+pub mod order_cases;
 pub mod random;
+pub mod script;
+pub mod waiting_cases;
 
 // The runner.
 pub mod agreement;
@@ -36,8 +39,10 @@ pub mod answers;
 pub mod compare;
 pub mod covered;
 pub mod independence;
+pub mod order;
 pub mod phases;
 pub mod program;
 pub mod read_back;
 pub mod shrink;
 pub mod tally;
+pub mod waiting;

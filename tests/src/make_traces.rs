@@ -1,6 +1,7 @@
 //! Made-up traces.
 
 use crate::clock::TURN;
+use crate::damage::part;
 use crate::make_events::{log_record, rsna_logging, transition};
 use crate::make_identity::{console_list, identity, STATION};
 use crate::make_reports::report_frame;
@@ -22,8 +23,8 @@ const BUFFERS: [usize; 32] = [
 
 /// How often each call comes: clock, logging, event frame, diagnostic frame, report call, move, network
 /// change, setup, request writer, report reader, the calls around a timeout, two transitions and a diagnostic
-/// over a turn.
-type Weights = [usize; 13];
+/// over a turn, a request that takes many report calls.
+type Weights = [usize; 14];
 
 /// What a trace is like as a whole.
 struct Plan {
@@ -45,7 +46,7 @@ fn plan(random: &mut Random) -> Plan {
     let taste = Taste { faulty: 12, cancels: 8 };
     let small_steps = [30, 40, 15, 4, 1, 2, 4];
     let everyday = Plan {
-        weights: [4, 22, 16, 10, 32, 2, 1, 1, 3, 4, 2, 1, 1],
+        weights: [4, 22, 16, 10, 32, 2, 1, 1, 3, 4, 2, 1, 1, 0],
         taste,
         loggings_first: random.between(0, 20),
         kinds: random.pick(&[[1, 1, 1], [1, 1, 1], [6, 1, 1], [1, 6, 1], [1, 1, 6], [1, 0, 0]]),
@@ -57,20 +58,20 @@ fn plan(random: &mut Random) -> Plan {
     match random.between(0, 6) {
         0 => Plan { loggings_first: random.between(60, 140), ..everyday },
         5 => Plan {
-            weights: [1, 5, 30, 2, 50, 1, 0, 0, 0, 0, 0, 1, 0],
+            weights: [1, 5, 30, 2, 50, 1, 0, 0, 0, 0, 0, 1, 0, 1],
             loggings_first: random.between(64, 70),
             short_buffers: false,
             crowded: 50,
             ..everyday
         },
         1 => Plan {
-            weights: [10, 2, 2, 30, 30, 1, 1, 1, 0, 0, 10, 0, 6],
+            weights: [10, 2, 2, 30, 30, 1, 1, 1, 0, 0, 10, 0, 6, 1],
             taste: Taste { faulty: 4, ..taste },
             steps: [30, 10, 45, 2, 1, 6, 2],
             ..everyday
         },
         2 => Plan {
-            weights: [0, 60, 8, 2, 25, 1, 0, 0, 0, 0, 0, 2, 0],
+            weights: [0, 60, 8, 2, 25, 1, 0, 0, 0, 0, 0, 2, 0, 0],
             taste: Taste { faulty: 0, ..taste },
             loggings_first: 64,
             short_buffers: true,
@@ -78,7 +79,7 @@ fn plan(random: &mut Random) -> Plan {
         },
         3 => Plan { taste: Taste { faulty: 60, ..taste }, steps: [10, 10, 10, 10, 10, 10, 10], ..everyday },
         4 => Plan {
-            weights: [2, 30, 14, 6, 30, 8, 4, 3, 1, 1, 2, 6, 3],
+            weights: [2, 30, 14, 6, 30, 8, 4, 3, 1, 1, 2, 6, 3, 0],
             steps: [20, 30, 10, 20, 10, 5, 5],
             ..everyday
         },
@@ -187,6 +188,7 @@ impl Maker<'_> {
                 self.push(Record::Read { destination, octets });
             }
             10 => self.around_a_timeout(),
+            13 => self.long_wait(),
             _ if !self.plan.far => self.report(),
             11 => self.transitions_over_a_turn(),
             _ => self.diagnostic_over_a_turn(),
@@ -312,6 +314,36 @@ impl Maker<'_> {
         self.bystander(source);
         self.reading = accepted.wrapping_add(self.random.pick(&[0, 1, 499, waits - 1]));
         self.diagnostic_report(source);
+    }
+
+    /// A request of eight elements for all that there is, and report calls with little room until it is likely to be
+    /// over, with calls between them that do not end it.
+    fn long_wait(&mut self) {
+        let (reading, source) = (self.step(), self.sender());
+        let random = &mut *self.random;
+        let kind = random.pick(&[Kind::Event, Kind::Diagnostic]);
+        let mut octets = vec![10, kind.request_action(), random.octet().max(1)];
+        for token in 1..=8 {
+            octets.extend(match kind {
+                Kind::Event => part(78, &[token, random.weighted(&self.plan.kinds) as u8, 255]),
+                Kind::Diagnostic => part(80, &[token, 1, 255, 255]),
+            });
+        }
+        let calls = if kind == Kind::Event { random.pick(&[20, 60, 140]) } else { 10 };
+        let request =
+            |reading| Record::Frame { reading, destination: STATION, source, octets: octets.clone() };
+        self.push(request(reading));
+        for _ in 0..calls {
+            match self.random.between(0, 19) {
+                0 => self.push(Record::Clock { reading: self.reading }),
+                1 => self.logging(),
+                2 => self.push(request(self.reading)),
+                3 => self.report(),
+                _ => {}
+            }
+            let (reading, buffer) = (self.reading, self.random.pick(&[259, 260, 260, 260, 260, 261, 280]));
+            self.push(Record::Report { reading, console: source, kind, buffer, fill: 0xEE });
+        }
     }
 
     /// Lets so much time pass in so many steps, each below a turn, with a call behind each but the last.

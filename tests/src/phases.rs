@@ -12,11 +12,14 @@ use crate::make_reports::report_frame;
 use crate::make_requests::{request_frame, Taste};
 use crate::make_traces::trace;
 use crate::octets::Kind;
+use crate::order_cases::order_cases;
 use crate::program::Programs;
 use crate::random::Random;
 use crate::read_back::check_read_back;
 use crate::tally::Tally;
 use crate::trace::{write_record, Record};
+use crate::waiting::{check_waiting, Waiting};
+use crate::waiting_cases::waiting_cases;
 use std::sync::atomic::{AtomicBool, AtomicUsize, Ordering};
 use std::sync::Mutex;
 use std::thread;
@@ -68,11 +71,12 @@ impl Run {
         Ok(printed)
     }
 
-    /// The same, demand 3, and the answers beside those of document 01's clock.
-    fn calls_and_independence(&self, records: &[Vec<u8>]) -> Result<(), Difference> {
+    /// The same, demand 3, the answers beside those of document 01's clock, and how long requests took.
+    fn calls_and_independence(&self, records: &[Vec<u8>], waits: &Mutex<Waiting>) -> Result<(), Difference> {
         let printed = self.calls(records)?;
         self.tally.count_answers(check_independence(&self.programs, records, &printed)?);
-        check_agreement(&self.programs, &self.tally, records, &printed)
+        check_agreement(&self.programs, &self.tally, records, &printed)?;
+        check_waiting(&self.programs, waits, records, &printed)
     }
 
     /// The fixed cases.
@@ -81,7 +85,7 @@ impl Run {
         each(inputs.len(), |index| match &inputs[index] {
             Input::Frame(octets) => compare_frame(&self.programs, &self.tally, octets),
             Input::Report(octets) => compare_report(&self.programs, &self.tally, octets),
-            Input::Trace(records) => self.calls_and_independence(records),
+            Input::Trace(records) => self.calls_and_independence(records, &self.tally.fixed_waits),
         })
     }
 
@@ -113,15 +117,16 @@ impl Run {
     pub fn traces(&self, number: usize) -> Result<(), Difference> {
         each(number, |index| {
             let records = trace(&mut Random::new(self.seed, 3, index as u64));
-            self.calls_and_independence(&records)
+            self.calls_and_independence(&records, &self.tally.made_up_waits)
         })
     }
 }
 
 /// The papers' cases and the limits of traces and frames.
 pub fn fixed_inputs() -> Vec<Input> {
-    let cases = cases().into_iter().chain(kind_cases()).chain(clock_cases()).map(|case| case.input);
-    cases.chain(limits()).chain(kind_limits()).collect()
+    let cases = cases().into_iter().chain(kind_cases()).chain(clock_cases()).chain(order_cases());
+    let waiting = waiting_cases().into_iter().map(|(case, _)| case);
+    cases.chain(waiting).map(|case| case.input).chain(limits()).chain(kind_limits()).collect()
 }
 
 /// Made-up frames: each as the input of `frame` or `report` alone, and all in the records of one trace.

@@ -3,7 +3,9 @@
 use crate::covered::Covered;
 use crate::event_body::EventBody;
 use crate::independence::Compared;
+use crate::octets::Kind;
 use crate::report::{ReportFrame, Rest};
+use crate::waiting::{most_allowed, Waiting};
 use std::sync::atomic::{AtomicUsize, Ordering};
 use std::sync::Mutex;
 
@@ -41,6 +43,9 @@ pub struct Tally {
     peer_links: Count,
     identities: Count,
     covered: Mutex<Covered>,
+    /// How long the requests of fixed traces took, and those of made-up ones.
+    pub fixed_waits: Mutex<Waiting>,
+    pub made_up_waits: Mutex<Waiting>,
 }
 
 impl Tally {
@@ -115,8 +120,22 @@ impl Tally {
         for ((name, what), number) in &cases {
             println!("{name}, {what}: {number}");
         }
-        named.iter().all(|(_, count)| count.number() > 0)
+        let waits = [("fixed cases", &self.fixed_waits), ("traces", &self.made_up_waits)];
+        let waited = waits.map(|(title, waits)| print_waits(title, waits));
+        waited == [true, true]
+            && named.iter().all(|(_, count)| count.number() > 0)
             && self.refusals[1..].iter().all(|count| count.number() > 0)
             && cases.iter().all(|(_, number)| *number > 0)
     }
+}
+
+/// Prints how many frames requests were given until they were over; false where none was.
+fn print_waits(title: &str, waits: &Mutex<Waiting>) -> bool {
+    let waits = waits.lock().expect("no thread panicked");
+    let kinds = [("event", Kind::Event, waits.events), ("diagnostic", Kind::Diagnostic, waits.diagnostics)];
+    for (name, kind, waited) in kinds {
+        let (requests, most, allowed) = (waited.requests, waited.most, most_allowed(kind));
+        println!("{title}: {requests} {name} requests over, the longest after {most} frames of {allowed}");
+    }
+    kinds.iter().all(|(_, _, waited)| waited.most > 0)
 }

@@ -4,12 +4,13 @@ use crate::clock::Rule;
 use crate::covered::Covered;
 use crate::listing::list_report;
 use crate::octets::{address_of, u16_of, Address, Kind};
+use crate::order::Order;
 use crate::peer_link::{PeerLink, PeerLogging};
 use crate::refusal::Refusal;
 use crate::report::ReportFrame;
 use crate::request::{write_request, Wanted};
 use crate::rsna::RsnaLogging;
-use crate::station::{Answer, Logging, Station};
+use crate::station::{Answer, Logging, Outstanding, Station};
 use crate::transition::{Time, Transition};
 
 /// "at most 262,144 octets in all".
@@ -364,12 +365,13 @@ pub fn hexadecimal(octets: &[u8]) -> String {
 }
 
 /// What a trace gives: the text that `replay` prints, what the gate chose for each frame that it gave, behind
-/// each record the longest age taken since setup, and the cases that the trace had.
+/// each record the longest age taken since setup and the requests outstanding, and the cases that the trace had.
 #[derive(Default)]
 pub struct Replayed {
     pub printed: String,
     pub chosen: Vec<ReportFrame>,
     pub ages: Vec<u128>,
+    pub outstanding: Vec<Vec<Outstanding>>,
     pub covered: Covered,
 }
 
@@ -420,6 +422,7 @@ pub fn run_trace(rule: Rule, input: &[u8]) -> Replayed {
     let within = &input[..input.len().min(LONGEST_TRACE)];
     let mut station = Station::without_requesters(rule);
     let mut replayed = Replayed::default();
+    let mut order = Order::default();
     let mut at = 0;
     while at < within.len() {
         let Some((record, length)) = read_record(&within[at..]) else {
@@ -428,14 +431,17 @@ pub fn run_trace(rule: Rule, input: &[u8]) -> Replayed {
             return replayed;
         };
         replayed.covered.before(&station, &record);
+        let due = order.before(&station, &record);
         let before = station.latest_reading();
         let oldest = station.log().first().filter(|_| station.log().len() == 64).map(|event| event.body.ty());
         let mut chosen = None;
         let printed = run_record(rule, &mut station, &record, &mut chosen);
         replayed.covered.after(&record, oldest, &printed, chosen.as_ref());
         replayed.covered.timed(before, &station, &record, &printed);
+        replayed.covered.ordered(&due, chosen.as_ref());
         replayed.chosen.extend(chosen);
         replayed.ages.push(station.longest_age());
+        replayed.outstanding.push(station.outstanding());
         replayed.printed += &printed;
         at += length;
     }

@@ -6,11 +6,15 @@ use differential::clock::{age, is_late, time_units, Moment};
 use differential::clock_cases::clock_cases;
 use differential::kind_cases::kind_cases;
 use differential::listing::{list_report_input, list_request};
+use differential::order_cases::order_cases;
 use differential::trace::replay;
+use differential::waiting_cases::waiting_cases;
 
 #[test]
 fn every_case_prints_what_the_papers_say() {
-    for case in cases().into_iter().chain(kind_cases()).chain(clock_cases()) {
+    let waiting = waiting_cases().into_iter().map(|(case, _)| case);
+    let cases = cases().into_iter().chain(kind_cases()).chain(clock_cases()).chain(order_cases());
+    for case in cases.chain(waiting) {
         let printed = match &case.input {
             Input::Frame(octets) => list_request(octets),
             Input::Report(octets) => list_report_input(octets),

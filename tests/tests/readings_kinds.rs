@@ -1,4 +1,5 @@
-//! How document 02's request (a) is read: RSNA and peer link events. A test for each agreed line.
+//! How document 02's request (a) is read: RSNA and peer link events. A test for each agreed line. Where several
+//! events are given, they stand newest first, as request (d) has it.
 
 use differential::clock::Rule;
 use differential::kind_cases::{
@@ -104,7 +105,8 @@ fn one_frame_of_each_kind_by_hand() {
     log_rsna(&mut station, &rsna(EXPANDED, &RSN));
     assert_eq!(station.log_peer_link(0, &peer_link()), Ok(Answer::Accepted));
     ask(&mut station, 1, &[]);
-    assert_eq!(give(&mut station), octets_of(&format!("0a0107{SHORT_RSNA}{LONG_RSNA}")));
+    // The long one was logged after the short one.
+    assert_eq!(give(&mut station), octets_of(&format!("0a0107{LONG_RSNA}{SHORT_RSNA}")));
     ask(&mut station, 2, &[]);
     assert_eq!(give(&mut station), octets_of(&format!("0a0107{PEER_LINK}")));
 }
@@ -117,9 +119,10 @@ fn connection_times_go_out_as_they_came_and_no_event_ends_another() {
     station.clock(4_000_000).expect("a clock reading is accepted");
     ask(&mut station, 2, &[]);
     let frame = give(&mut station);
-    // Two elements of 27 octets; in each, connection time and peer status are the last four.
-    assert_eq!(frame[26..30], [255, 255, 255, 1]);
-    assert_eq!(frame[53..], [7, 0, 0, 0]);
+    // Two elements of 27 octets, the end of the link first; in each, connection time and peer status are the last
+    // four.
+    assert_eq!(frame[26..30], [7, 0, 0, 0]);
+    assert_eq!(frame[53..], [255, 255, 255, 1]);
 }
 
 #[test]
@@ -315,20 +318,21 @@ fn the_65th_event_drops_the_oldest_whatever_the_kinds() {
 }
 
 #[test]
-fn an_element_is_given_its_own_kind_in_order_up_to_its_limit() {
+fn an_element_is_given_its_own_kind_newest_first_up_to_its_limit() {
     let mut station = station();
     for number in 1..=3 {
         log_link(&mut station, link(number));
         log_transition(&mut station, 0, number as u8);
     }
-    // Peer links up to two, an Incapable, no RSNA event.
+    // Peer links up to two of three, an Incapable, no RSNA event.
     let frame = [10, 0, 7, 78, 3, 1, 2, 2, 78, 3, 2, 3, 9, 78, 3, 3, 1, 9];
     assert_eq!(station.frame(0, &TO, &A, &frame), Ok(Answer::Accepted));
     // Logged after acceptance.
     log_rsna(&mut station, &rsna(LEGACY, &[]));
     let given = give(&mut station);
     assert_eq!(given.len(), 3 + 27 + 27 + 5 + 5);
-    assert_eq!((given[26], given[53]), (1, 2));
+    // The third and the second, by the least octets of their connection times.
+    assert_eq!((given[26], given[53]), (3, 2));
     assert_eq!(given[57..], [79, 3, 2, 3, 3, 79, 3, 3, 1, 0]);
 }
 

@@ -1,4 +1,5 @@
-//! How document 01 is read: the gate. A test for each agreed line.
+//! How document 01 is read: the gate. A test for each agreed line. Where several events are given, they stand
+//! newest first, as document 02's request (d) has it.
 
 use differential::clock::Rule;
 use differential::event_body::EventBody;
@@ -112,7 +113,7 @@ fn an_equal_token_changes_nothing_while_outstanding() {
     // After the request is over the same token opens a new one.
     assert_eq!(give(&mut station, 5, Kind::Event, 260).0, Ok(Answer::Nothing));
     ask(&mut station, 6, &asking(7, &[]));
-    assert_eq!(events(&mut station, 7), [1, 2]);
+    assert_eq!(events(&mut station, 7), [2, 1]);
 }
 
 #[test]
@@ -182,9 +183,10 @@ fn a_rest_that_was_dropped_from_the_log_leaves_a_bare_header() {
         log(&mut station, 0, reason);
     }
     ask(&mut station, 0, &asking(7, &[]));
-    // 3 + 7 * 35 = 248: the eighth does not fit 260.
-    assert_eq!(reasons(&give(&mut station, 0, Kind::Event, 260).1), [1, 2, 3, 4, 5, 6, 7]);
-    for reason in 9..=72 {
+    // 3 + 7 * 35 = 248: the eighth, which is the oldest, does not fit 260.
+    assert_eq!(reasons(&give(&mut station, 0, Kind::Event, 260).1), [8, 7, 6, 5, 4, 3, 2]);
+    // The 65th drops it.
+    for reason in 9..=65 {
         log(&mut station, 0, reason);
     }
     // Still outstanding: an equal token changes nothing.
@@ -194,14 +196,14 @@ fn a_rest_that_was_dropped_from_the_log_leaves_a_bare_header() {
 }
 
 #[test]
-fn before_and_later_go_by_the_order_of_calls() {
+fn before_and_older_go_by_the_order_of_calls() {
     let mut station = station();
     log(&mut station, 500, 1);
     log(&mut station, 400, 2);
     ask(&mut station, 300, &asking(7, &[]));
     log(&mut station, 300, 3);
     log(&mut station, 200, 4);
-    assert_eq!(events(&mut station, 100), [1, 2]);
+    assert_eq!(events(&mut station, 100), [2, 1]);
 }
 
 #[test]
@@ -211,8 +213,9 @@ fn given_and_limit_are_counted_over_the_elements_life() {
         log(&mut station, 0, reason);
     }
     ask(&mut station, 0, &[10, 0, 7, 78, 3, 5, 0, 9, 78, 3, 6, 0, 2]);
-    assert_eq!(reasons(&give(&mut station, 0, Kind::Event, 260).1), [1, 2, 3, 4, 5, 6, 7]);
-    assert_eq!(reasons(&give(&mut station, 0, Kind::Event, 260).1), [8, 9, 1, 2]);
+    // Nine of twenty, seven to a frame; then the next element's two, from the newest on.
+    assert_eq!(reasons(&give(&mut station, 0, Kind::Event, 260).1), [20, 19, 18, 17, 16, 15, 14]);
+    assert_eq!(reasons(&give(&mut station, 0, Kind::Event, 260).1), [13, 12, 20, 19]);
     assert_eq!(give(&mut station, 0, Kind::Event, 260).0, Ok(Answer::Nothing));
 }
 
@@ -244,7 +247,7 @@ fn late_elements_go_one_by_one() {
 #[test]
 fn match_value_looks_at_two_bits_and_both_octets_of_the_result() {
     let expected: [(u8, &[u16]); 6] =
-        [(0, &[1000]), (1, &[1]), (2, &[2, 3]), (3, &[1, 2, 3]), (0xFC, &[1000]), (0xFE, &[2, 3])];
+        [(0, &[1000]), (1, &[1]), (2, &[3, 2]), (3, &[3, 2, 1]), (0xFC, &[1000]), (0xFE, &[3, 2])];
     for (value, given) in expected {
         let mut station = station();
         log_with(&mut station, 0, 1, 0);
@@ -345,10 +348,10 @@ fn an_element_that_does_not_fit_is_not_skipped() {
     for reason in 1..=8 {
         log(&mut station, 0, reason);
     }
-    // Seven events make 248; the eighth does not fit 260, the Incapable behind it would.
+    // Seven events make 248; the eighth, the oldest, does not fit 260, the Incapable behind it would.
     ask(&mut station, 0, &[10, 0, 7, 78, 3, 5, 0, 8, 78, 3, 6, 9, 0]);
     assert_eq!(give(&mut station, 0, Kind::Event, 260).0, Ok(Answer::Length(248)));
-    assert_eq!(reasons(&give(&mut station, 0, Kind::Event, 260).1), [8, 1003]);
+    assert_eq!(reasons(&give(&mut station, 0, Kind::Event, 260).1), [1, 1003]);
 }
 
 #[test]
@@ -399,7 +402,7 @@ fn the_65th_event_drops_the_oldest() {
         log(&mut station, 0, reason);
     }
     ask(&mut station, 0, &asking(7, &[]));
-    assert_eq!(events(&mut station, 0), (2..=65).collect::<Vec<u16>>());
+    assert_eq!(events(&mut station, 0), (2..=65).rev().collect::<Vec<u16>>());
 }
 
 #[test]

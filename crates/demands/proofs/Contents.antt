@@ -2,26 +2,23 @@
 -- Assumes nothing.
 use Prim.Native.Nat.{ℕ, zero, suc, _≤_, _<_}
 use mathlib.Core.Path.{_≡_, refl, sym, ap, _∙_}
-use mathlib.Core.Bool.{Bool, true, false, not}
+use mathlib.Core.Bool.{true}
 use mathlib.Core.List.{List, [], _∷_, map}
 use mathlib.Core.Option.{Option, none, some, Option·some-injective}
 use native.Mathlib.Omega.{arith}
 use native.Mathlib.Nat.{le-of-suc-le-suc, not-suc-le-zero}
 use lib.ListN.{length, getD}
 use Rattle.laws.specs.Members.{Among, first, later}
-use Rattle.laws.specs.Choice.{if_then_else_}
 use Rattle.laws.proofs.Members.{among-map, all-among}
 use Rattle.laws.proofs.Choice.{either, never}
 use Rattle.units.specs.Time.{elapsedSince}
 use Rattle.octets.specs.declared.numbers.Kind.{Kind}
 use Rattle.octets.specs.declared.numbers.Kind.the-variants.{Event, Diagnostic}
 use Rattle.octets.specs.Numbers.{successful, incapable}
-use Rattle.octets.specs.Refusals.{badTime, badReportBody}
 use Rattle.octets.specs.Elements.{Subelement, subelements}
-use Rattle.octets.specs.Times.{goodTime}
 use Rattle.requests.specs.declared.Element.{Element}
 use Rattle.events.specs.declared.Entry.{Entry}
-use Rattle.events.specs.Loggings.{LoggedEvent, eventTime, goodRsnElement, Logging, entryFor}
+use Rattle.events.specs.Loggings.{Logging, entryFor}
 use Rattle.identities.specs.Identity.{goodIdentity}
 use Rattle.reports.specs.Reports.{reportElement, eventElement}
 use Rattle.model.specs.declared.Diagnostic.{Diagnostic as DiagnosticElement}
@@ -33,9 +30,9 @@ use Rattle.events.specs.Log.{pastLog}
 use Rattle.model.specs.Events.{nextEventPlace, reportFront, treatFront, nextFrom, nextEvent, without, eventTreatment}
 use Rattle.model.specs.Diagnostics.{diagnosticTreatment, diagnosticReport, nextDiagnostic}
 use Rattle.report_reader.specs.Contents.{Content, statusOnly, loggedEvent, withSubelements, Valid, contentOctets}
-use Rattle.model.specs.Stations.{logCause}
 use Rattle.model.specs.Sound.{loggingCall, LoggedBy}
 use Rattle.model.proofs.NextEvent.{next-event}
+use Rattle.model.proofs.CallLaws.{log-good}
 use Rattle.demands.specs.StationRoundTrip.{WellFormed, Truthful}
 use Rattle.demands.proofs.Filled.{Tells}
 use Rattle.identities.proofs.Subelements.{good-listed}
@@ -52,16 +49,6 @@ entry-at (x ∷ xs) (suc p) d h = let r = entry-at xs p d (le-of-suc-le-suc h) i
 
 among-entries : (xs : List Logging) (log : List Entry) → log ≡ map entryFor xs → (x : Logging) → Among x xs → Among (entryFor x) log
 among-entries xs log e x m = rw e (among-map entryFor m)
-
--- an event that logging does not refuse
-log-good : (x : LoggedEvent) → logCause x ≡ 0 → (goodTime (eventTime x) ≡ true) × (goodRsnElement x ≡ true)
-unfolding logCause if_then_else_
-log-good x = go (goodTime (eventTime x)) (goodRsnElement x)
-  where
-    go : (a b : Bool) → (if not a then badTime else if not b then badReportBody else 0) ≡ 0 → (a ≡ true) × (b ≡ true)
-    go true true e = (refl, refl)
-    go true false e = absurd (omega arith)
-    go false b e = absurd (omega arith)
 
 -- ---- events
 

@@ -1,13 +1,14 @@
 -- The theorems about the model, carried to the code by induction over the chain.
 -- Assumes nothing.
 use Prim.Native.Nat.{ℕ}
-use mathlib.Core.Path.{_≡_, refl, sym, ap, _∙_}
+use mathlib.Core.Path.{_≡_, refl, sym, ap, ap₂, _∙_}
 use mathlib.Core.List.{List, [], _∷_, _++_, map, flatten}
 use mathlib.Core.Option.{Option, none, some}
 use lib.ListN.{length-map}
 use Rattle.laws.specs.Members.{Among, first, later, All, nil, also}
 use Rattle.laws.proofs.Members.{among-none}
 use Rattle.octets.specs.declared.numbers.Kind.{Kind}
+use Rattle.octets.specs.declared.numbers.Kind.the-variants.{Event, Diagnostic}
 use Rattle.octets.specs.declared.refusals.Refusal.{Refusal}
 use Rattle.events.specs.Loggings.{Logging, EventLengths}
 use Rattle.model.specs.Clocks.{elapsedClock}
@@ -15,23 +16,25 @@ use Rattle.model.specs.Model.{standard, Address, Call, clock, frame, report, Re
 use Rattle.model.specs.Model.{Station as Model·Station}
 use Rattle.model.specs.Stations.{setup, timed, readingOf, step}
 use Rattle.model.specs.Refusals.{lentBuffer}
-use Rattle.model.specs.Runs.{run, Always, sender, Reply, reply, toSender}
+use Rattle.model.specs.Runs.{run, HandedIn, EachCall, Always, sender, Reply, reply, toSender}
 use Rattle.model.specs.Independence.{answers, BelowTop}
 use Rattle.model.specs.Agreement.{replies}
 use Rattle.model.specs.Sound.{loggingCall}
 use Rattle.model.specs.NewestFirst.{eventsOf, eventsGiven}
+use Rattle.model.specs.Waiting.{framesGiven, Spares, OverWithin}
 use Rattle.model.proofs.Refusals.{refused-call, refused-setup}
 use Rattle.model.proofs.CallLaws.{step-timer}
 use Rattle.model.proofs.Premise.{elapsed-is-true}
 use Rattle.model.proofs.NewestFirst.{newest-first}
+use Rattle.model.proofs.Waiting.{requests-end-standard}
 use Rattle.model.proofs.Independence.{independent, independent-short-run}
 use Rattle.model.proofs.Agreement.{old-and-new-agree}
 use Rattle.station.specs.declared.Station.{Station}
 use Rattle.station.specs.declared.Outcome.{Outcome}
 use Rattle.station.specs.Views.{view, viewOutcome}
 use Rattle.demands.specs.StationRoundTrip.{WellFormed, RoundTrip}
-use Rattle.demands.specs.Chains.{Made, HandedIn, Allowed, Chain, none-made, made, SetUp}
-use Rattle.demands.specs.Demands.{CodeLeftAlone, Total, CodeLeftUnnamed, TotalSetup, callOf, Exact, answered, replied, ShortOfTop, IndependentRequesters, IndependentShortChain, AnswersAsBefore, TimeIsTrue, givenTo, GivesNewestFirst}
+use Rattle.demands.specs.Chains.{Made, Allowed, Chain, none-made, made, SetUp}
+use Rattle.demands.specs.Demands.{CodeLeftAlone, Total, CodeLeftUnnamed, TotalSetup, callOf, Exact, answered, replied, ShortOfTop, IndependentRequesters, IndependentShortChain, AnswersAsBefore, TimeIsTrue, givenTo, GivesNewestFirst, framesMade, SparedBy, CodeOverWithin, RequestsAreOver}
 use Rattle.demands.proofs.StationRoundTrip.{station-round-trip}
 
 -- ---- what an allowed call gives is what the model gives
@@ -164,3 +167,46 @@ pub gives-newest-first : GivesNewestFirst
 gives-newest-first g m ms h a c t d s o is opens lets =
     let after : view (m .outcome .station) ≡ step elapsedClock standard (view g) (frame t d s o) .station = station-is a ∙ ap (λ (x : Call). step elapsedClock standard (view g) x .station) is in
     rw (chain-given s c, chain-run c, after) (newest-first elapsedClock standard (view g) t d s o (map callOf ms) opens lets)
+
+-- ---- document 02 (e)
+
+chain-handed : {g h : Station} {ms : List Made} → Chain g ms h → All HandedIn (map callOf ms)
+chain-handed none-made = nil
+chain-handed (made a c) = also (a .handed-in) (chain-handed c)
+
+module _ (kind : Kind) (s : Address) where
+  chain-frames : {g h : Station} {ms : List Made} → Chain g ms h → framesMade kind s ms ≡ framesGiven elapsedClock standard kind s (view g) (map callOf ms)
+  unfolding framesMade framesGiven viewOutcome
+  chain-frames none-made = refl
+  chain-frames (made {g = g} {m = m} {ms = ms} a c) =
+      let there : framesMade kind s ms ≡ framesGiven elapsedClock standard kind s (step elapsedClock standard (view g) (m .call) .station) (map callOf ms) = chain-frames c ∙ ap (λ (x : Model·Station). framesGiven elapsedClock standard kind s x (map callOf ms)) (station-is a) in
+      rw (answer-is a, there)
+
+  chain-spared : (n : ℕ) {g h : Station} {ms : List Made} → Chain g ms h → All (SparedBy kind s n) ms → EachCall (Spares elapsedClock standard kind s n) elapsedClock standard (view g) (map callOf ms)
+  unfolding EachCall viewOutcome
+  chain-spared n none-made nil = tt
+  chain-spared n (made a c) (also p ps) = (rw (answer-is a) at p, rw (station-is a) at (chain-spared n c ps))
+
+code-over-within : (kind : Kind) (bound : ℕ) → OverWithin elapsedClock standard kind bound → CodeOverWithin kind bound
+code-over-within kind bound x = record {
+  while-it-stays = λ i l o ms g u c m later h a c′ t n d s b is opens stays.
+      let here = run-from-setup i l o u c in
+      let after = opened i l (map callOf ms) a here (frame t d s b) is in
+      rw (chain-frames kind s c′, after)
+      (x .while-it-stays i l (map callOf ms) (map callOf later) (chain-handed c) (chain-handed c′) t n d s b (rw here at opens) (rw after at stays));
+  where-spared = λ i l o ms g u c m later h a c′ t n d s b is opens spared few.
+      let here = run-from-setup i l o u c in
+      let after = opened i l (map callOf ms) a here (frame t d s b) is in
+      rw after
+      (x .where-spared i l (map callOf ms) (map callOf later) (chain-handed c) (chain-handed c′) t n d s b (rw here at opens) (rw after at (chain-spared kind s n c′ spared)) (rw (chain-frames kind s c′, after) at few));
+}
+  where
+    opened : (i : List ℕ) (l : List Address) (cs : List Call) {g : Station} {m : Made} → Allowed g m → view g ≡ run elapsedClock standard (setup standard i l .station) cs → (y : Call) → m .call ≡ y
+        → view (m .outcome .station) ≡ step elapsedClock standard (run elapsedClock standard (setup standard i l .station) cs) y .station
+    opened i l cs a here y is = station-is a ∙ ap₂ (λ (g : Model·Station) (c : Call). step elapsedClock standard g c .station) here is
+
+pub requests-are-over : RequestsAreOver
+requests-are-over = record {
+  events = code-over-within Event 512 (requests-end-standard .events elapsedClock);
+  diagnostics = code-over-within Diagnostic 8 (requests-end-standard .diagnostics elapsedClock);
+}

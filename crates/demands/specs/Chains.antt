@@ -4,10 +4,10 @@
 use mathlib.Core.Path.{_≡_}
 use mathlib.Core.List.{List, [], _∷_}
 use Prim.Native.Nat.{ℕ}
-use Rattle.events.specs.Loggings.{EventLengths}
 use Rattle.model.specs.Clocks.{elapsedClock}
-use Rattle.model.specs.Model.{standard, Address, Call, clock, logging, frame, report, roam, change}
+use Rattle.model.specs.Model.{standard, Address, Call}
 use Rattle.model.specs.Stations.{setup, step}
+use Rattle.model.specs.Runs.{HandedIn}
 use Rattle.station.specs.declared.Station.{Station}
 use Rattle.station.specs.declared.Outcome.{Outcome}
 use Rattle.station.specs.Views.{view, viewOutcome}
@@ -17,15 +17,6 @@ pub record Made : Type 0 where
   pub call : Call
   pub outcome : Outcome
   pub buffer : List ℕ
-
--- what a caller can hand in: a logged event's fields are arrays, which have their lengths
-abbrev pub HandedIn : Call → Type 0
-HandedIn (clock t) = Unit {0}
-HandedIn (logging t x) = EventLengths x
-HandedIn (frame t d s o) = Unit {0}
-HandedIn (report t s k b) = Unit {0}
-HandedIn (roam t l) = Unit {0}
-HandedIn (change t l) = Unit {0}
 
 -- a call made on the station g: the equation of its method's contract
 pub record Allowed (g : Station) (m : Made) : Type 0 where

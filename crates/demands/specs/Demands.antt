@@ -1,15 +1,16 @@
--- The three demands and document 02 (c) and (d), said of the code: for every chain of stations and answers in which each is what its method's contract allows of the
+-- The three demands and document 02 (c), (d) and (e), said of the code: for every chain of stations and answers in which each is what its method's contract allows of the
 -- one before, the first from setup. Their proofs are in proofs/Demands.antt.
 -- Assumes nothing.
-use Prim.Native.Nat.{ℕ, _-_, _%_, _<_, min}
+use Prim.Native.Nat.{ℕ, _+_, _-_, _%_, _≤_, _<_, min}
 use mathlib.Core.Path.{_≡_}
-use mathlib.Core.List.{List, _∷_, map, flatten}
+use mathlib.Core.Bool.{false}
+use mathlib.Core.List.{List, [], _∷_, map, flatten}
 use mathlib.Core.Option.{Option}
 use lib.ListN.{length, take}
 use Rattle.laws.specs.Members.{All}
 use Rattle.units.specs.Time.{turn, elapsedTop, elapsedSince}
 use Rattle.octets.specs.declared.numbers.Kind.{Kind}
-use Rattle.octets.specs.declared.numbers.Kind.the-variants.{Event}
+use Rattle.octets.specs.declared.numbers.Kind.the-variants.{Event, Diagnostic}
 use Rattle.octets.specs.declared.refusals.Refusal.{Refusal}
 use Rattle.requests.specs.Requests.{readRequest}
 use Rattle.model.specs.Clocks.{counterClock, elapsedClock}
@@ -17,11 +18,12 @@ use Rattle.model.specs.Model.{standard, Address, Call, clock, frame, report, of
 use Rattle.model.specs.Outstanding.{outstandingDialog}
 use Rattle.model.specs.Stations.{setup, tick, readingOf, nobody}
 use Rattle.model.specs.Refusals.{lentBuffer, causesOf, setupCauses, RefusedBy}
-use Rattle.model.specs.Runs.{Always, sender, Reply, toSender}
+use Rattle.model.specs.Runs.{Always, EachCall, sender, Reply, toSender}
 use Rattle.model.specs.Independence.{from, freshAnswers}
 use Rattle.model.specs.Agreement.{replies, Young}
 use Rattle.model.specs.NewestFirst.{requestReports, eventsOf, OpensEvents, LetsBe, GivenInOrder}
 use Rattle.model.specs.Premise.{LessThanTurnApart, latest}
+use Rattle.model.specs.Waiting.{Opens, Stays, framesFor, endsRequest, OverIn}
 use Rattle.requesters.specs.Views.{viewAnswer}
 use Rattle.station.specs.declared.Station.{Station}
 use Rattle.station.specs.declared.Outcome.{Outcome}
@@ -115,3 +117,34 @@ GivesNewestFirst =
     → let q = readRequest (standard .elements) o in
     let log = view g .log in
     GivenInOrder (requestReports elapsedSince log (length log) (take (q .count) (q .elements))) (givenTo s ms) (outstandingDialog Event s (view h))
+
+-- ---- document 02 (e)
+
+-- how many "report calls by its own console for that kind that give a frame" a list of calls has
+unfoldable pub framesMade : Kind → Address → List Made → ℕ
+framesMade kind s [] = 0
+framesMade kind s (m ∷ ms) = framesFor kind s (m .call) (answered m .answer) + framesMade kind s ms
+
+-- "neither replaced nor ended by a move or network change"
+abbrev pub SparedBy : Kind → Address → ℕ → Made → Type 0
+SparedBy kind s n m = endsRequest standard kind s n (m .call) (answered m .answer) ≡ false
+
+-- what is said of a request of s with the dialog token n that a frame call m opened, of the station that m returned, and of the later calls
+abbrev pub OnceMade : Kind → (Address → ℕ → Station → List Made → Type 0) → Type 0
+OnceMade kind P =
+    (i : List ℕ) (l : List Address) (o : Outcome) (ms : List Made) (g : Station) → SetUp i l o → Chain (o .station) ms g
+    → (m : Made) (later : List Made) (h : Station) → Allowed g m → Chain (m .outcome .station) later h
+    → (t n : ℕ) (d s : Address) (b : List ℕ) → m .call ≡ frame t d s b → Opens elapsedClock standard kind s n (view g) t d b
+    → P s n (m .outcome .station) later
+
+-- while it stays, fewer frames were given; and where it is spared, it is over once so many were
+pub record CodeOverWithin (kind : Kind) (bound : ℕ) : Type 0 where
+  pub while-it-stays : OnceMade kind (λ s n g later. EachCall (Stays elapsedClock standard kind s n) elapsedClock standard (view g) (map callOf later)
+      → framesMade kind s later < bound)
+  pub where-spared : OnceMade kind (λ s n g later. All (SparedBy kind s n) later → bound ≤ framesMade kind s later
+      → OverIn elapsedClock standard kind s n bound (view g) (map callOf later))
+
+-- "it is over after at most 512 report calls"; "Diagnostics: at most eight."
+pub record RequestsAreOver : Type 0 where
+  pub events : CodeOverWithin Event 512
+  pub diagnostics : CodeOverWithin Diagnostic 8

@@ -2,14 +2,22 @@
 -- Assumes nothing.
 use Prim.Native.Nat.{ℕ}
 use mathlib.Core.Path.{_≡_, refl, sym, ap}
+use mathlib.Core.Bool.{Bool, true, false, not}
 use mathlib.Core.List.{List, [], map}
 use mathlib.Core.Option.{Option, none, some}
+use native.Mathlib.Omega.{arith}
+use borrow.Author.Tests.{eqb-true, not-false}
+use Rattle.laws.specs.Choice.{if_then_else_}
 use Rattle.laws.proofs.Choice.{either}
+use Rattle.octets.specs.Times.{goodTime}
+use Rattle.octets.specs.Refusals.{badTime, badReportBody}
 use Rattle.events.specs.declared.Entry.{Entry}
+use Rattle.events.specs.Log.{pushed}
+use Rattle.events.specs.Loggings.{LoggedEvent, eventTime, goodRsnElement, entryOf}
 use Rattle.model.specs.Clocks.{Timer, unset, Clock, advanced}
 use Rattle.model.specs.Model.{Capacities, Address, Requester, Station, Call, clock, logging, frame, report, roam, change, Result}
 use Rattle.model.specs.Requesters.{newRequester, find}
-use Rattle.model.specs.Stations.{setup, timed, withoutLate, tick, logEntry, logCall, Served, withRequester, serveFound, serveListed, requestCall, frameCall, reportCall, renameWith, rename, act, readingOf, step}
+use Rattle.model.specs.Stations.{setup, timed, withoutLate, tick, logEntry, logCause, logCall, Served, withRequester, serveFound, serveListed, requestCall, frameCall, reportCall, renameWith, rename, act, readingOf, step}
 
 -- ---- no call changes the identity, nor the timer but by its reading
 
@@ -47,6 +55,44 @@ module _ (k : Clock) (most : Capacities) (g : Station) (c : Call) where
   pub step-identity : step k most g c .station .identity ≡ g .identity
   unfolding step withoutLate timed
   step-identity = act-kept most (k .since) c (tick k (readingOf c) g) .1
+
+-- ---- what a call makes of the log
+
+-- an event that logging does not refuse
+pub log-good : (x : LoggedEvent) → logCause x ≡ 0 → (goodTime (eventTime x) ≡ true) × (goodRsnElement x ≡ true)
+unfolding logCause if_then_else_
+log-good x = go (goodTime (eventTime x)) (goodRsnElement x)
+  where
+    go : (a b : Bool) → (if not a then badTime else if not b then badReportBody else 0) ≡ 0 → (a ≡ true) × (b ≡ true)
+    go true true e = (refl, refl)
+    go true false e = absurd (omega arith)
+    go false b e = absurd (omega arith)
+
+module _ (P : List Entry → Type 0) (empty : P []) where
+  found-log : (a : Address) (serve : Requester → Served) (b : List ℕ) (g : Station) (o : Option Requester) → P (g .log) → P (serveFound a serve b g o .station .log)
+  unfolding serveFound withRequester
+  found-log a serve b g none p = p
+  found-log a serve b g (some r) p = p
+
+  rename-log : (most : Capacities) (log : List Entry) (l : List Address) (g : Station) → P log → P (g .log) → P (rename most log l g .station .log)
+  unfolding rename renameWith
+  rename-log most log l g q p = either (λ (x : Result). P (x .station .log)) _ _ _ (λ _. p) (λ _. go (g .identity))
+    where
+      go : (o : Option (List ℕ)) → P (renameWith log l g o .station .log)
+      go none = p
+      go (some i) = q
+
+  -- what holds of an empty log and of one with the call's entry more, if it has one, holds of the log after the call
+  pub act-log : (since : ℕ → ℕ → ℕ) (most : Capacities) (c : Call) (g : Station)
+      → ((t : ℕ) (x : LoggedEvent) → c ≡ logging t x → logCause x ≡ 0 → P (pushed (most .events) (g .log) (entryOf (g .timer .now) t x)))
+      → P (g .log) → P (act since most c g .station .log)
+  unfolding act logCall logEntry requestCall frameCall reportCall serveListed
+  act-log since most (clock t) g more p = p
+  act-log since most (logging t x) g more p = either (λ (y : Result). P (y .station .log)) _ _ _ (λ _. p) (λ h. more t x refl (eqb-true _ 0 (not-false _ h)))
+  act-log since most (frame t d a o) g more p = either (λ (x : Result). P (x .station .log)) _ _ _ (λ _. p) (λ _. found-log a _ [] g (find a (g .requesters)) p)
+  act-log since most (report t a kind b) g more p = found-log a _ b g (find a (g .requesters)) p
+  act-log since most (roam t l) g more p = rename-log most (g .log) l g p p
+  act-log since most (change t l) g more p = rename-log most [] l g empty p
 
 -- ---- what setup leaves
 

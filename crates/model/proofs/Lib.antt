@@ -2,13 +2,16 @@ pub mod FillLaws
 pub mod Seen
 pub mod AgesLaws
 pub mod CallLaws
+pub mod NextEvent
+pub mod FramesLeft
+pub mod Waiting
+pub mod WaitingCases
 pub mod Retimed
 pub mod Paired
 pub mod Premise
 pub mod Independence
 pub mod Past
 pub mod Agreement
-pub mod NextEvent
 pub mod Refusals
 pub mod Sound
 pub mod NewestFirst

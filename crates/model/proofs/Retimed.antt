@@ -41,6 +41,7 @@ use Rattle.model.specs.Diagnostics.{isLate, onTime, unlessOver, dropLate
 use Rattle.model.specs.Events.{eventTreatment, eligiblePlaces, nextEventPlace, reportFront, treatFront, nextFrom, nextEvent, gave, without}
 use Rattle.model.specs.Stations.{result, refusedFor, tickRequester, withoutLate, lowerRequester, logRequester, logEntry, logCause, logCall, Served, served, withRequester, serveFound, serveListed, takeKind, takeRequest, requestCall, frameCall, room, giveEvents, giveDiagnostics, ifOutstanding, octetsOf, giveKind, giveReport, reportCall, renameWith, rename, act}
 use Rattle.model.specs.Ages.{asksFrequent, OfRequest, OfDrop, OfLog, OfEvents, OfKind, OfReport, OfCall}
+use Rattle.model.proofs.FillLaws.{fill-rest}
 use Rattle.model.proofs.Seen.{find-map}
 
 -- ---- general: a request is filled alike by two next pieces that are the same for every rest of it
@@ -61,14 +62,8 @@ module _ {R : Type 0} (next next′ : R → Option (Piece R)) (Inv : R → Type 
       go (some p) k e = rw (e (room - length (p .octets)) (p .rest) k)
 
   fill-keeps : (n room : ℕ) (r : R) → Inv r → Inv (fill next′ n room r .rest)
-  unfolding fill fillWith Kept
-  fill-keeps zero room r i = i
-  fill-keeps (suc n) room r i = go (next′ r) (keeps r i) (fill-keeps n)
-    where
-      go : (o : Option (Piece R)) → Kept Inv o → ((room : ℕ) (r : R) → Inv r → Inv (fill next′ n room r .rest))
-          → Inv (fillWith r room (λ p. fill next′ n (room - length (p .octets)) (p .rest)) o .rest)
-      go none k e = i
-      go (some p) k e = either (λ (x : Piece R). Inv (x .rest)) _ _ _ (λ _. e (room - length (p .octets)) (p .rest) k) (λ _. i)
+  unfolding Kept
+  fill-keeps = fill-rest next′ (λ r r′. Inv r → Inv r′) (λ r i. i) (λ r r′ p e f i. f (rw e at (keeps r i)))
 
   frame-same : (action dialog room : ℕ) (r : R) → Inv r → nextFrame next action dialog room r ≡ nextFrame next′ action dialog room r
   unfolding nextFrame

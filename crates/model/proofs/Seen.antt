@@ -31,7 +31,7 @@ use Rattle.model.specs.Independence.{quietFor, quiet}
 -- ---- the requester that an address finds
 
 -- a function that keeps each requester's address
-abbrev Keeps : (Requester → Requester) → Type 0
+abbrev pub Keeps : (Requester → Requester) → Type 0
 Keeps f = (r : Requester) → f r .address ≡ r .address
 
 pub find-map : (f : Requester → Requester) → Keeps f → (s : Address) (rs : List Requester) → find s (map f rs) ≡ Option·map f (find s rs)
@@ -43,7 +43,7 @@ find-map f k s (r ∷ rs) =
     ∙ sym (apply-if (Option·map f) (same s (r .address)) (some r) (find s rs))
 
 module _ (a : Address) (x r : Requester) (keeps : x .address ≡ r .address) where
-  put-own : (rs : List Requester) → find a rs ≡ some r → find a (put a x rs) ≡ some x
+  pub put-own : (rs : List Requester) → find a rs ≡ some r → find a (put a x rs) ≡ some x
   unfolding find put if_then_else_
   put-own [] e = cc
   put-own (q ∷ rs) e = go (same a (q .address)) refl e (put-own rs)
@@ -55,7 +55,7 @@ module _ (a : Address) (x r : Requester) (keeps : x .address ≡ r .address) whe
           rw (d, p)
       go false p h rest = rw (p) (rest h)
 
-  put-other : (s : Address) → same a s ≡ false → (rs : List Requester) → find a rs ≡ some r → find s (put a x rs) ≡ find s rs
+  pub put-other : (s : Address) → same a s ≡ false → (rs : List Requester) → find a rs ≡ some r → find s (put a x rs) ≡ find s rs
   unfolding find put if_then_else_
   put-other s n [] e = refl
   put-other s n (q ∷ rs) e = go (same a (q .address)) refl e (put-other s n rs)
@@ -121,11 +121,11 @@ stepSeen k most s c v = actSeen k most s c (tickSeen k (readingOf c) v)
 
 -- ---- every piece keeps the address
 
-tick-keeps : (since : ℕ → ℕ → ℕ) (now : ℕ) → Keeps (tickRequester since now)
+pub tick-keeps : (since : ℕ → ℕ → ℕ) (now : ℕ) → Keeps (tickRequester since now)
 unfolding tickRequester
 tick-keeps since now r = refl
 
-log-keeps : (most : Capacities) (log : List Entry) → Keeps (logRequester most log)
+pub log-keeps : (most : Capacities) (log : List Entry) → Keeps (logRequester most log)
 unfolding logRequester lowerRequester
 log-keeps most log r = either (λ (x : Requester). x .address ≡ r .address) _ _ _ (λ _. refl) (λ _. refl)
 
@@ -135,10 +135,10 @@ kind-keeps now log q r Event = refl
 kind-keeps now log q r Diagnostic = refl
 
 -- a call that keeps the address of its requester
-abbrev ServeKeeps : (Requester → Served) → Type 0
+abbrev pub ServeKeeps : (Requester → Served) → Type 0
 ServeKeeps serve = (r : Requester) → serve r .requester .address ≡ r .address
 
-take-keeps : (now : ℕ) (log : List Entry) (q : Request) → ServeKeeps (takeRequest now log q)
+pub take-keeps : (now : ℕ) (log : List Entry) (q : Request) → ServeKeeps (takeRequest now log q)
 unfolding takeRequest
 take-keeps now log q r =
     either (λ (x : Served). x .requester .address ≡ r .address) _ _ _ (λ _. refl) (λ _. kind-keeps now log q r (q .kind))
@@ -154,7 +154,7 @@ unfolding giveKind giveEvents giveDiagnostics
 give-kind-keeps since i log b r Event = outstanding-keeps (giveEvents since log b r) r b (λ q. refl) (r .events)
 give-kind-keeps since i log b r Diagnostic = outstanding-keeps (giveDiagnostics (octetsOf i) b r) r b (λ q. refl) (r .diagnostics)
 
-give-keeps : (since : ℕ → ℕ → ℕ) (i : Option (List ℕ)) (log : List Entry) (kind : Kind) (b : List ℕ) → ServeKeeps (giveReport since i log kind b)
+pub give-keeps : (since : ℕ → ℕ → ℕ) (i : Option (List ℕ)) (log : List Entry) (kind : Kind) (b : List ℕ) → ServeKeeps (giveReport since i log kind b)
 unfolding giveReport
 give-keeps since i log kind b r =
     either (λ (x : Served). x .requester .address ≡ r .address) _ _ _ (λ _. refl) (λ _. give-kind-keeps since i log b r kind)

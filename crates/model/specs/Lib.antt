@@ -16,5 +16,6 @@ pub mod Independence
 pub mod Ages
 pub mod Agreement
 pub mod Premise
+pub mod Waiting
 pub mod Starred
 pub mod StoredGate

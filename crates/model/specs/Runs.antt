@@ -3,6 +3,7 @@
 use Prim.Native.Nat.{ℕ}
 use mathlib.Core.List.{List, [], _∷_}
 use mathlib.Core.Option.{Option, none, some}
+use Rattle.events.specs.Loggings.{EventLengths}
 use Rattle.model.specs.Clocks.{Clock}
 use Rattle.model.specs.Model.{Capacities, Address, Station, Call, clock, logging, frame, report, roam, change, Answer}
 use Rattle.model.specs.Stations.{timed, readingOf, step}
@@ -11,6 +12,20 @@ use Rattle.model.specs.Stations.{timed, readingOf, step}
 unfoldable pub run : Clock → Capacities → Station → List Call → Station
 run k most g [] = g
 run k most g (c ∷ cs) = run k most (step k most g c .station) cs
+
+-- what a caller can hand in: a logged event's fields are arrays, which have their lengths
+abbrev pub HandedIn : Call → Type 0
+HandedIn (clock t) = Unit {0}
+HandedIn (logging t x) = EventLengths x
+HandedIn (frame t d s o) = Unit {0}
+HandedIn (report t s k b) = Unit {0}
+HandedIn (roam t l) = Unit {0}
+HandedIn (change t l) = Unit {0}
+
+-- what is said of every call of a list, and of the station that it is made on
+unfoldable pub EachCall : (Station → Call → Type 0) → Clock → Capacities → Station → List Call → Type 0
+EachCall P k most g [] = Unit {0}
+EachCall P k most g (c ∷ cs) = P g c × EachCall P k most (step k most g c .station) cs
 
 -- what is said of every call of a list, and of the station at its time, before the late drop
 unfoldable pub Always : (Station → Call → Type 0) → Clock → Capacities → Station → List Call → Type 0

@@ -38,11 +38,6 @@ module _ (time body : List ℕ) (nine : length time ≡ 9) where
 
 -- ---- its fields
 
-pub time-nine : (x : LoggedEvent) → EventLengths x → length (eventTime x) ≡ 9
-time-nine (transition t) w = w .time
-time-nine (rsna e rsn) w = w .time
-time-nine (peerLink e) w = w .time
-
 pub decoded-back : (reading : ℕ) (x : LoggedEvent) → EventLengths x → decoded (eventType x) (eventTime x ++ eventBody reading x) ≡ reportedEvent reading x
 unfolding decoded transitionIn rsnaIn peerLinkIn if_then_else_
 decoded-back reading (transition t) w =

@@ -31,12 +31,12 @@ use Rattle.subelements.specs.Subelements.{tables, noFilter, wholeStep, subeleme
 use Rattle.subelements.proofs.Tables.{no-length}
 use Rattle.subelements.specs.Subelements.{moreSubelements as moreSubs}
 use Rattle.events.specs.Loggings.{eventType, eventTime, eventBody, goodRsnElement, entryWith, Logging, EventLengths}
-use Rattle.events.proofs.LoggingLaws.{body-back}
+use Rattle.events.proofs.LoggingLaws.{time-nine, body-back}
 use Rattle.reports.specs.Reports.{reportElement, eventElement}
 use Rattle.report_reader.specs.Decoders.{ReportedEvent}
 use Rattle.report_reader.specs.Reader.{plainElement, loggedElement, foundStep, plainStep, loggedStep, reportLength, isEventLength, typedStep, eventStep, walkedStep, diagnosticStep, ownReportStep, stepAt, elementRead, reportOf, readReport, reading, gathered, unread, readStep, readElements}
 use Rattle.report_reader.specs.Contents.{Content, statusOnly, loggedEvent, keptUnread, withSubelements, Valid, contentOctets, contentFrame, contentRead, ReportRoundTrip}
-use Rattle.report_reader.proofs.DecodersBack.{time-nine, decoded-back, typed, length-fits}
+use Rattle.report_reader.proofs.DecodersBack.{decoded-back, typed, length-fits}
 use Rattle.report_reader.proofs.Laws.{short-event}
 
 -- ---- subelements that are walked for their edges

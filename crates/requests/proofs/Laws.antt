@@ -1,17 +1,17 @@
--- Laws of the walk over elements: the number of subelements, tokens, and a turn of the walk's loop.
+-- Laws of the walk over elements: the number of subelements and of elements, tokens, and a turn of the walk's loop.
 -- Assumes nothing.
 use Prim.Native.Nat.{ℕ, _+_, _-_, _≤_, _<_}
 use mathlib.Core.Path.{_≡_, refl, ap, _∙_}
 use mathlib.Core.Bool.{Bool, true, false}
 use mathlib.Core.List.{List}
 use lib.Dec.{ltb}
-use lib.ListN.{length, getD, set, take, drop, length-set, drop-of-length-le}
-use borrow.Author.Tests.{eq-eqb, ne-eqb, eqb-true, eqb-false, le-leb, lt-leb, lt-ltb, le-ltb, not-false}
+use lib.ListN.{length, getD, set, take, drop, length-take, length-set, drop-of-length-le}
+use borrow.Author.Tests.{eq-eqb, ne-eqb, eqb-true, eqb-false, leb-false, le-leb, lt-leb, lt-ltb, le-ltb, not-true, not-false}
 use native.Mathlib.Omega.{arith}
 use Rattle.laws.specs.Members.{any}
 use Rattle.laws.specs.Choice.{if_then_else_}
-use Rattle.laws.proofs.Choice.{either}
-use Rattle.laws.proofs.Walk.{Rest, start, last, again, done, go-on, stop-refused, stop-end, keeps-while, and-first}
+use Rattle.laws.proofs.Choice.{either, never}
+use Rattle.laws.proofs.Walk.{Rest, start, last, again, done, go-on, stop-refused, stop-end, keeps-while, keeps, and-first}
 use Rattle.laws.proofs.Arrays.{take-next}
 use Rattle.octets.specs.declared.numbers.Kind.{Kind}
 use Rattle.octets.specs.declared.numbers.Kind.the-variants.{Event, Diagnostic}
@@ -26,9 +26,9 @@ use Rattle.subelements.specs.Subelements.{walked, refusedWalk, past, wholeStep,
 use Rattle.subelements.proofs.Laws.{walk-at-end}
 use Rattle.requests.specs.declared.Element.{Element}
 use Rattle.requests.specs.declared.Request.{Request}
-use Rattle.requests.specs.Elements.{elementCapacity, pastElements, leastBody, tableOf, subelementsOf, elementOf, blankElements, hasToken, badToken, ElementWalk, refusedElements, withElement, ownRequestStep, elementStep, moreElements, walkElements}
+use Rattle.requests.specs.Elements.{elementCapacity, pastElements, leastBody, tableOf, subelementsOf, elementOf, blankElements, hasToken, badToken, ElementWalk, started, refusedElements, withElement, ownRequestStep, elementStep, moreElements, walkElements}
 use Rattle.requests.specs.Internal.{subelementsStart}
-use Rattle.requests.specs.Requests.{refusedRequest, lacksElement, requestOf, headerCause}
+use Rattle.requests.specs.Requests.{refusedRequest, lacksElement, requestOf, requestKind, headerCause, readRequest}
 
 -- ---- the number of subelements: an element of at most 255 octets has fewer than 256
 
@@ -81,6 +81,64 @@ unfolding subelementsOf
 subelements-few s Event at end h =
     either (λ (w : Subelements). w .count < 256) _ _ _ (λ _. omega (arith, walk-few s (getD s (at + 3) 0) (at + 5) end)) (λ _. omega arith)
 subelements-few s Diagnostic at end h = omega (arith, walk-few s tables (at + 6) end)
+
+-- ---- the number of elements: a request that was read has no more than it may have
+
+abbrev EightPlaces : ElementWalk → Type 0
+EightPlaces w = length (w .elements) ≡ elementCapacity
+
+module _ (most : ℕ) (s : List ℕ) where
+  abbrev Within : ElementWalk → Type 0
+  Within w = w .count ≤ most
+
+  step-within : (kind : Kind) (w : ElementWalk) → Within w → Within (elementStep most s kind w)
+  unfolding elementStep ownRequestStep withElement
+  step-within kind w h =
+      either Within _ _ _ (λ _. omega arith)
+      (λ _. either Within _ _ _ (λ _. h)
+      (λ _. either Within _ _ _ (λ _. omega arith)
+      (λ n. either Within _ _ _ (λ _. omega arith)
+      (λ _. either Within _ _ _ (λ _. omega arith)
+      (λ _. either Within _ _ _ (λ _. omega arith) (λ _. omega (arith, leb-false most (w .count) n)))))))
+
+  pub request-few : readRequest most s .count ≤ most
+  unfolding readRequest requestOf walkElements
+  request-few =
+      let P : Request → Type 0 = λ (q : Request). q .count ≤ most in
+      either P _ _ _ (λ _. omega arith)
+      (λ _. either P _ _ _ (λ _. omega arith)
+      (λ _. either P _ _ _ (λ _. omega arith)
+      (λ _. keeps Within _ _ (step-within (requestKind s)) (length s) (started noRefusal 3) (omega arith))))
+
+  step-eight : (kind : Kind) (w : ElementWalk) → EightPlaces w → EightPlaces (elementStep most s kind w)
+  unfolding elementStep ownRequestStep withElement
+  step-eight kind w h =
+      either EightPlaces _ _ _ (λ _. refl)
+      (λ _. either EightPlaces _ _ _ (λ _. h)
+      (λ _. either EightPlaces _ _ _ (λ _. refl)
+      (λ _. either EightPlaces _ _ _ (λ _. refl)
+      (λ _. either EightPlaces _ _ _ (λ _. refl)
+      (λ _. either EightPlaces _ _ _ (λ _. refl) (λ _. length-set (w .elements) (w .count) _ ∙ h))))))
+
+-- and a diagnostic one that is not refused has one at least
+pub record HasOne (q : Request) : Type 0 where
+  pub one : q .refusal .number ≡ 0 → q .kind ≡ Diagnostic → 1 ≤ length (take (q .count) (q .elements))
+
+refused-one : (n p : ℕ) → (n ≡ 0 → ⊥) → HasOne (refusedRequest n p)
+refused-one n p z = record { one = λ e. absurd (z e) }
+
+read-one : (kind : Kind) (dialog count : ℕ) (es : List Element) → length es ≡ elementCapacity → lacksElement kind count ≡ false
+    → HasOne (record { refusal = noRefusal; kind = kind; dialog = dialog; count = count; elements = es })
+read-one Event dialog count es eight h = record { one = λ _ e. never cc }
+read-one Diagnostic dialog count es eight h = record { one = λ _ _. omega (arith, length-take count es, eqb-false count 0 h) }
+
+pub request-some : (most : ℕ) (s : List ℕ) → HasOne (readRequest most s)
+unfolding readRequest requestOf walkElements
+request-some most s =
+    either HasOne _ _ _ (λ h. refused-one _ 0 (eqb-false _ 0 (not-true _ h)))
+    (λ _. either HasOne _ _ _ (λ h. refused-one _ _ (eqb-false _ 0 (not-true _ h)))
+    (λ _. either HasOne _ _ _ (λ _. refused-one noElement 0 (λ e. omega arith))
+    (λ h. read-one (requestKind s) (getD s 2 0) _ _ (keeps EightPlaces _ _ (step-eight most s (requestKind s)) (length s) (started noRefusal 3) refl) h)))
 
 -- ---- tokens: what is left of the first n elements, from i on
 

@@ -40,17 +40,11 @@ good-length l =
     either P _ _ _ (λ _ e. absurd (let z : _≡_ {A = ℕ} 0 1 = cc in omega arith))
     (λ _. either P _ _ _ (λ _ e. absurd (let z : _≡_ {A = ℕ} 0 1 = cc in omega arith)) (λ h _. ltb-false 4 (length l) h))
 
--- an identity has an octet, and at most 252
+-- an identity has an octet
 pub identity-some : (s : List ℕ) → goodIdentity s ≡ true → 0 < length s
 unfolding goodIdentity goodFrom passRow stands if_then_else_
 identity-some [] e = let z : _≡_ {A = ℕ} 0 1 = cc in absurd (omega arith)
 identity-some (x ∷ s) e = omega arith
-
-pub identity-most : (s : List ℕ) → goodIdentity s ≡ true → length s ≤ 252
-unfolding goodIdentity
-identity-most s =
-    let P : Bool → Type 0 = λ (b : Bool). b ≡ true → length s ≤ 252 in
-    either P _ _ _ (λ _ e. absurd (let z : _≡_ {A = ℕ} 0 1 = cc in omega arith)) (λ h _. ltb-false 252 (length s) h)
 
 -- the identity of a station by its length
 view-none : (n : ℕ) (o : List ℕ) → n ≡ 0 → viewIdentity n o ≡ none

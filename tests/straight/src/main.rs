@@ -95,6 +95,7 @@ mod tests {
         assert_eq!(planted(""), Ok(1));
     }
 
+    /// A method's name is followed in every type that has one, so there may be more faults than one.
     #[test]
     fn what_is_planted_in_it_is_found() {
         for (statement, fault) in [
@@ -116,7 +117,7 @@ mod tests {
             ("let tus = std::num::min(tus, 1);", "`std::num::min`: cannot be followed"),
         ] {
             let faults = planted(statement).unwrap_err();
-            assert!(faults.len() == 1 && faults[0].contains(fault), "{statement}: {faults:?}");
+            assert!(faults.iter().any(|found| found.contains(fault)), "{statement}: {faults:?}");
         }
     }
 }

@@ -4,10 +4,11 @@ use mathlib.Core.Path.{sym, ap, _∙_}
 use mathlib.Core.List.{[]}
 use borrow.Author.Tests.{not-true, not-false}
 use Rattle.octets.specs.Refusals.{badRequesterList, badIdentity}
+use Rattle.identities.proofs.Laws.{identity-most}
 use Rattle.model.specs.Model.{Station, accepted}
 use Rattle.model.specs.Stations.{result, refusedFor}
 use Rattle.station.specs.Internal.{acceptedOutcome}
-use Rattle.station.proofs.StationLaws.{good-length, identity-some, identity-most, view-setup, accepted-view, accepted-leaves, refused-leaves, setup-bad-list, setup-bad-identity, setup-good}
+use Rattle.station.proofs.StationLaws.{good-length, identity-some, view-setup, accepted-view, accepted-leaves, refused-leaves, setup-bad-list, setup-bad-identity, setup-good}
 use borrow.Author.Needs.{needs}
 use Rattle.station.proofs.Station.setup.Statement.{statement}
 use Rattle.station.proofs.Station.setup.Tie as tie
