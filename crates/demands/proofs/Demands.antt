@@ -16,12 +16,12 @@ use Rattle.model.specs.Model.{standard, Address, Call, clock, frame, report, Re
 use Rattle.model.specs.Model.{Station as Model·Station}
 use Rattle.model.specs.Stations.{setup, timed, readingOf, step}
 use Rattle.model.specs.Refusals.{lentBuffer}
-use Rattle.model.specs.Runs.{run, HandedIn, EachCall, Always, sender, Reply, reply, toSender}
+use Rattle.model.specs.Runs.{run, HandedIn, Always, sender, Reply, reply, toSender}
 use Rattle.model.specs.Independence.{answers, BelowTop}
 use Rattle.model.specs.Agreement.{replies}
 use Rattle.model.specs.Sound.{loggingCall}
 use Rattle.model.specs.NewestFirst.{eventsOf, eventsGiven}
-use Rattle.model.specs.Waiting.{framesGiven, Spares, OverWithin}
+use Rattle.model.specs.Waiting.{framesGiven, OverWithin}
 use Rattle.model.proofs.Refusals.{refused-call, refused-setup}
 use Rattle.model.proofs.CallLaws.{step-timer}
 use Rattle.model.proofs.Premise.{elapsed-is-true}
@@ -34,7 +34,7 @@ use Rattle.station.specs.declared.Outcome.{Outcome}
 use Rattle.station.specs.Views.{view, viewOutcome}
 use Rattle.demands.specs.StationRoundTrip.{WellFormed, RoundTrip}
 use Rattle.demands.specs.Chains.{Made, Allowed, Chain, none-made, made, SetUp}
-use Rattle.demands.specs.Demands.{CodeLeftAlone, Total, CodeLeftUnnamed, TotalSetup, callOf, Exact, answered, replied, ShortOfTop, IndependentRequesters, IndependentShortChain, AnswersAsBefore, TimeIsTrue, givenTo, GivesNewestFirst, framesMade, SparedBy, CodeOverWithin, RequestsAreOver}
+use Rattle.demands.specs.Demands.{CodeLeftAlone, Total, CodeLeftUnnamed, TotalSetup, callOf, Exact, answered, replied, ShortOfTop, IndependentRequesters, IndependentShortChain, AnswersAsBefore, TimeIsTrue, givenTo, GivesNewestFirst, framesMade, CodeOverWithin, RequestsAreOver}
 use Rattle.demands.proofs.StationRoundTrip.{station-round-trip}
 
 -- ---- what an allowed call gives is what the model gives
@@ -174,31 +174,24 @@ chain-handed : {g h : Station} {ms : List Made} → Chain g ms h → All HandedI
 chain-handed none-made = nil
 chain-handed (made a c) = also (a .handed-in) (chain-handed c)
 
-module _ (kind : Kind) (s : Address) where
-  chain-frames : {g h : Station} {ms : List Made} → Chain g ms h → framesMade kind s ms ≡ framesGiven elapsedClock standard kind s (view g) (map callOf ms)
-  unfolding framesMade framesGiven viewOutcome
-  chain-frames none-made = refl
-  chain-frames (made {g = g} {m = m} {ms = ms} a c) =
-      let there : framesMade kind s ms ≡ framesGiven elapsedClock standard kind s (step elapsedClock standard (view g) (m .call) .station) (map callOf ms) = chain-frames c ∙ ap (λ (x : Model·Station). framesGiven elapsedClock standard kind s x (map callOf ms)) (station-is a) in
-      rw (answer-is a, there)
-
-  chain-spared : (n : ℕ) {g h : Station} {ms : List Made} → Chain g ms h → All (SparedBy kind s n) ms → EachCall (Spares elapsedClock standard kind s n) elapsedClock standard (view g) (map callOf ms)
-  unfolding EachCall viewOutcome
-  chain-spared n none-made nil = tt
-  chain-spared n (made a c) (also p ps) = (rw (answer-is a) at p, rw (station-is a) at (chain-spared n c ps))
+chain-frames : (kind : Kind) (s : Address) {g h : Station} {ms : List Made} → Chain g ms h → framesMade kind s ms ≡ framesGiven elapsedClock standard kind s (view g) (map callOf ms)
+unfolding framesMade framesGiven viewOutcome
+chain-frames kind s none-made = refl
+chain-frames kind s (made {g = g} {m = m} {ms = ms} a c) =
+    let there : framesMade kind s ms ≡ framesGiven elapsedClock standard kind s (step elapsedClock standard (view g) (m .call) .station) (map callOf ms) = chain-frames kind s c ∙ ap (λ (x : Model·Station). framesGiven elapsedClock standard kind s x (map callOf ms)) (station-is a) in
+    rw (answer-is a, there)
 
 code-over-within : (kind : Kind) (bound : ℕ) → OverWithin elapsedClock standard kind bound → CodeOverWithin kind bound
 code-over-within kind bound x = record {
+  becomes = λ i l o ms g u c m later h a c′ t n d s b is opens.
+      let here = run-from-setup i l o u c in
+      rw (opened i l (map callOf ms) a here (frame t d s b) is)
+      (x .becomes i l (map callOf ms) (map callOf later) (chain-handed c) (chain-handed c′) t n d s b (rw here at opens));
   while-it-stays = λ i l o ms g u c m later h a c′ t n d s b is opens stays.
       let here = run-from-setup i l o u c in
       let after = opened i l (map callOf ms) a here (frame t d s b) is in
       rw (chain-frames kind s c′, after)
       (x .while-it-stays i l (map callOf ms) (map callOf later) (chain-handed c) (chain-handed c′) t n d s b (rw here at opens) (rw after at stays));
-  where-spared = λ i l o ms g u c m later h a c′ t n d s b is opens spared few.
-      let here = run-from-setup i l o u c in
-      let after = opened i l (map callOf ms) a here (frame t d s b) is in
-      rw after
-      (x .where-spared i l (map callOf ms) (map callOf later) (chain-handed c) (chain-handed c′) t n d s b (rw here at opens) (rw after at (chain-spared kind s n c′ spared)) (rw (chain-frames kind s c′, after) at few));
 }
   where
     opened : (i : List ℕ) (l : List Address) (cs : List Call) {g : Station} {m : Made} → Allowed g m → view g ≡ run elapsedClock standard (setup standard i l .station) cs → (y : Call) → m .call ≡ y

@@ -1,9 +1,8 @@
 -- The three demands and document 02 (c), (d) and (e), said of the code: for every chain of stations and answers in which each is what its method's contract allows of the
 -- one before, the first from setup. Their proofs are in proofs/Demands.antt.
 -- Assumes nothing.
-use Prim.Native.Nat.{ℕ, _+_, _-_, _%_, _≤_, _<_, min}
+use Prim.Native.Nat.{ℕ, _+_, _-_, _%_, _<_, min}
 use mathlib.Core.Path.{_≡_}
-use mathlib.Core.Bool.{false}
 use mathlib.Core.List.{List, [], _∷_, map, flatten}
 use mathlib.Core.Option.{Option}
 use lib.ListN.{length, take}
@@ -23,7 +22,7 @@ use Rattle.model.specs.Independence.{from, freshAnswers}
 use Rattle.model.specs.Agreement.{replies, Young}
 use Rattle.model.specs.NewestFirst.{requestReports, eventsOf, OpensEvents, LetsBe, GivenInOrder}
 use Rattle.model.specs.Premise.{LessThanTurnApart, latest}
-use Rattle.model.specs.Waiting.{Opens, Stays, framesFor, endsRequest, OverIn}
+use Rattle.model.specs.Waiting.{Opens, Stays, framesFor, Becomes}
 use Rattle.requesters.specs.Views.{viewAnswer}
 use Rattle.station.specs.declared.Station.{Station}
 use Rattle.station.specs.declared.Outcome.{Outcome}
@@ -125,10 +124,6 @@ unfoldable pub framesMade : Kind → Address → List Made → ℕ
 framesMade kind s [] = 0
 framesMade kind s (m ∷ ms) = framesFor kind s (m .call) (answered m .answer) + framesMade kind s ms
 
--- "neither replaced nor ended by a move or network change"
-abbrev pub SparedBy : Kind → Address → ℕ → Made → Type 0
-SparedBy kind s n m = endsRequest standard kind s n (m .call) (answered m .answer) ≡ false
-
 -- what is said of a request of s with the dialog token n that a frame call m opened, of the station that m returned, and of the later calls
 abbrev pub OnceMade : Kind → (Address → ℕ → Station → List Made → Type 0) → Type 0
 OnceMade kind P =
@@ -137,12 +132,10 @@ OnceMade kind P =
     → (t n : ℕ) (d s : Address) (b : List ℕ) → m .call ≡ frame t d s b → Opens elapsedClock standard kind s n (view g) t d b
     → P s n (m .outcome .station) later
 
--- while it stays, fewer frames were given; and where it is spared, it is over once so many were
 pub record CodeOverWithin (kind : Kind) (bound : ℕ) : Type 0 where
+  pub becomes : OnceMade kind (λ s n g later. Becomes elapsedClock standard kind s n bound (view g) (map callOf later))
   pub while-it-stays : OnceMade kind (λ s n g later. EachCall (Stays elapsedClock standard kind s n) elapsedClock standard (view g) (map callOf later)
       → framesMade kind s later < bound)
-  pub where-spared : OnceMade kind (λ s n g later. All (SparedBy kind s n) later → bound ≤ framesMade kind s later
-      → OverIn elapsedClock standard kind s n bound (view g) (map callOf later))
 
 -- "it is over after at most 512 report calls"; "Diagnostics: at most eight."
 pub record RequestsAreOver : Type 0 where
