@@ -1,18 +1,18 @@
 -- Document 02 (j): calls at one reading. A frame changes the first requester of its source, and no other; and a second late drop at one
 -- reading finds nothing.
 -- Assumes nothing.
-use Prim.Native.Nat.{ℕ, _*_}
+use Prim.Native.Nat.{ℕ}
 use mathlib.Core.Path.{_≡_, refl, sym, _∙_, ap, ap₂}
 use mathlib.Core.Bool.{Bool, true, false}
 use mathlib.Core.List.{List, [], _∷_, map}
 use mathlib.Core.Option.{Option, none, some, Option·some-injective}
 use native.Mathlib.Omega.{arith}
 use lib.Dec.{eqb}
-use borrow.Author.Tests.{le-ltb}
+use borrow.Author.Tests.{ltb-true}
 use Rattle.laws.specs.Choice.{if_then_else_}
 use Rattle.laws.specs.Members.{All, nil, also}
 use Rattle.laws.proofs.Choice.{either, never}
-use Rattle.units.specs.Time.{elapsedSince, exceeds}
+use Rattle.units.specs.Time.{elapsedSince}
 use Rattle.octets.specs.declared.numbers.Kind.{Kind}
 use Rattle.octets.specs.declared.numbers.Kind.the-variants.{Event, Diagnostic}
 use Rattle.octets.specs.Addresses.{same, isGroup}
@@ -53,13 +53,19 @@ module _ (now : ℕ) where
       go true e h = h
       go false e h = rw (e, h)
 
-  -- of a request that was accepted just now
+  -- what was accepted just now is not late
+  not-late : (x : DiagnosticElement) → isLate elapsedSince now now x ≡ false
+  unfolding isLate
+  not-late x = go (isLate elapsedSince now now x) refl
+    where
+      go : (b : Bool) → isLate elapsedSince now now x ≡ b → b ≡ false
+      go true e = absurd (omega (arith, ltb-true))
+      go false e = refl
+
   on-time-new : (xs : List DiagnosticElement) → onTime elapsedSince now now xs ≡ xs
-  unfolding onTime isLate if_then_else_
+  unfolding onTime if_then_else_
   on-time-new [] = refl
-  on-time-new (x ∷ xs) =
-      let e : exceeds (elapsedSince now now) (x .timeout * 1000) ≡ false = le-ltb (x .timeout * 1000) (elapsedSince now now) (omega arith) in
-      rw (e, on-time-new xs)
+  on-time-new (x ∷ xs) = rw (not-late x, on-time-new xs)
 
   over-settled : (d a : ℕ) (xs : List DiagnosticElement) → onTime elapsedSince now a xs ≡ xs → Settled (unlessOver d a xs)
   unfolding unlessOver dropLate
