@@ -1,8 +1,9 @@
--- The three demands and document 02 (c), (d) and (e), said of the code: for every chain of stations and answers in which each is what its method's contract allows of the
+-- The three demands and document 02 (c), (d), (e) and (j), said of the code: for every chain of stations and answers in which each is what its method's contract allows of the
 -- one before, the first from setup. Their proofs are in proofs/Demands.antt.
 -- Assumes nothing.
 use Prim.Native.Nat.{ℕ, _+_, _-_, _%_, _<_, min}
 use mathlib.Core.Path.{_≡_}
+use mathlib.Core.Bool.{false}
 use mathlib.Core.List.{List, [], _∷_, map, flatten}
 use mathlib.Core.Option.{Option}
 use lib.ListN.{length, take}
@@ -11,9 +12,10 @@ use Rattle.units.specs.Time.{turn, elapsedTop, elapsedSince}
 use Rattle.octets.specs.declared.numbers.Kind.{Kind}
 use Rattle.octets.specs.declared.numbers.Kind.the-variants.{Event, Diagnostic}
 use Rattle.octets.specs.declared.refusals.Refusal.{Refusal}
+use Rattle.octets.specs.Addresses.{same}
 use Rattle.requests.specs.Requests.{readRequest}
 use Rattle.model.specs.Clocks.{counterClock, elapsedClock}
-use Rattle.model.specs.Model.{standard, Address, Call, clock, frame, report, ofLength, turnedAway}
+use Rattle.model.specs.Model.{standard, Address, Call, clock, frame, report, roam, change, accepted, ofLength, turnedAway}
 use Rattle.model.specs.Outstanding.{outstandingDialog}
 use Rattle.model.specs.Stations.{setup, tick, readingOf, nobody}
 use Rattle.model.specs.Refusals.{lentBuffer, causesOf, setupCauses, RefusedBy}
@@ -141,3 +143,27 @@ pub record CodeOverWithin (kind : Kind) (bound : ℕ) : Type 0 where
 pub record RequestsAreOver : Type 0 where
   pub events : CodeOverWithin Event 512
   pub diagnostics : CodeOverWithin Diagnostic 8
+
+-- ---- document 02 (j)
+
+-- two calls, of which the second is made on the station that the first returned
+pub record MadeInOrder (g : Station) (x y : Made) : Type 0 where
+  pub first : Allowed g x
+  pub second : Allowed (x .outcome .station) y
+
+-- "the same gate .., with the same answers", whatever the calls returned: x, then y, and y′, then x′
+pub record SameEitherWay (x y y′ x′ : Made) : Type 0 where
+  pub station : view (y .outcome .station) ≡ view (x′ .outcome .station)
+  pub one : answered x ≡ answered x′
+  pub other : answered y ≡ answered y′
+
+-- "two request frames from different consoles, taken at the same reading"; "two equal network changes at one reading equal one"; "a move,
+-- then an accepted network change at the same reading, equal that change alone"
+pub record OrderLeavesNoTrace : Type 0 where
+  pub frames : (g : Station) (x y y′ x′ : Made) → MadeInOrder g x y → MadeInOrder g y′ x′ → (t : ℕ) (d e a b : Address) (o p : List ℕ) → same a b ≡ false
+      → x .call ≡ frame t d a o → x′ .call ≡ frame t d a o → y .call ≡ frame t e b p → y′ .call ≡ frame t e b p → SameEitherWay x y y′ x′
+  pub changes : (g : Station) (x y : Made) → MadeInOrder g x y → (t : ℕ) (l : List Address) → x .call ≡ change t l → y .call ≡ change t l
+      → (view (y .outcome .station) ≡ view (x .outcome .station)) × (answered y ≡ answered x)
+  pub move : (g : Station) (x y alone : Made) → MadeInOrder g x y → Allowed g alone → (t : ℕ) (l m : List Address) → x .call ≡ roam t l → y .call ≡ change t m
+      → alone .call ≡ change t m → (answered y ≡ answered alone)
+      × (viewAnswer (alone .outcome .answer) ≡ accepted → view (y .outcome .station) ≡ view (alone .outcome .station))
