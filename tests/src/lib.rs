@@ -38,6 +38,7 @@ pub mod agreement;
 pub mod answers;
 pub mod compare;
 pub mod covered;
+pub mod exchange;
 pub mod independence;
 pub mod order;
 pub mod phases;

@@ -4,6 +4,7 @@ use crate::agreement::check_agreement;
 use crate::cases::{cases, limits, Input};
 use crate::clock_cases::clock_cases;
 use crate::compare::{compare_frame, compare_report, compare_trace, Difference};
+use crate::exchange::check_exchange;
 use crate::independence::check_independence;
 use crate::kind_cases::{kind_cases, kind_limits};
 use crate::make_events::log_record;
@@ -71,12 +72,14 @@ impl Run {
         Ok(printed)
     }
 
-    /// The same, demand 3, the answers beside those of document 01's clock, and how long requests took.
+    /// The same, demand 3, the answers beside those of document 01's clock, how long requests took, and frames
+    /// of one reading exchanged.
     fn calls_and_independence(&self, records: &[Vec<u8>], waits: &Mutex<Waiting>) -> Result<(), Difference> {
         let printed = self.calls(records)?;
         self.tally.count_answers(check_independence(&self.programs, records, &printed)?);
         check_agreement(&self.programs, &self.tally, records, &printed)?;
-        check_waiting(&self.programs, waits, records, &printed)
+        check_waiting(&self.programs, waits, records, &printed)?;
+        check_exchange(&self.programs, &self.tally, records)
     }
 
     /// The fixed cases.

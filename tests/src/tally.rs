@@ -26,7 +26,7 @@ impl Count {
 }
 
 /// Lines that programs printed, and how often each refusal number was among them; answers compared for
-/// demand 3, and beside document 01's clock; frames read back, and what was in them; the cases of document 02.
+/// demand 3, and beside document 01's clock; frames exchanged; frames read back, and what was in them; the cases of document 02.
 #[derive(Default)]
 pub struct Tally {
     lines: Count,
@@ -36,6 +36,7 @@ pub struct Tally {
     agreed: Count,
     event_reports: Count,
     diagnostic_reports: Count,
+    exchanged: Count,
     frames: Count,
     elements: Count,
     transitions: Count,
@@ -74,6 +75,11 @@ impl Tally {
         self.diagnostic_reports.add(diagnostic_reports);
     }
 
+    /// Counts pairs of frames that were exchanged.
+    pub fn count_exchanged(&self, pairs: usize) {
+        self.exchanged.add(pairs);
+    }
+
     /// Counts frames that were read back as they were chosen.
     pub fn count_read_back(&self, chosen: &[ReportFrame]) {
         self.frames.add(chosen.len());
@@ -103,6 +109,7 @@ impl Tally {
             ("answers of document 01's clock, no age of a turn taken", &self.agreed),
             ("event reports that differ from its, an age of a turn taken", &self.event_reports),
             ("diagnostic reports that differ from its, an age of a turn taken", &self.diagnostic_reports),
+            ("pairs of frames of one reading exchanged", &self.exchanged),
             ("frames read back", &self.frames),
             ("elements in them", &self.elements),
             ("transitions among these", &self.transitions),

@@ -12,21 +12,22 @@ use Rattle.octets.specs.declared.numbers.Kind.the-variants.{Event, Diagnostic}
 use Rattle.octets.specs.declared.refusals.Refusal.{Refusal}
 use Rattle.events.specs.Loggings.{Logging, EventLengths}
 use Rattle.model.specs.Clocks.{elapsedClock}
-use Rattle.model.specs.Model.{standard, Address, Call, clock, frame, report, Result, ofLength, turnedAway}
+use Rattle.model.specs.Model.{standard, Address, Call, clock, frame, report, roam, change, Result, ofLength, turnedAway}
 use Rattle.model.specs.Model.{Station as Model·Station}
 use Rattle.model.specs.Stations.{setup, timed, readingOf, step}
 use Rattle.model.specs.Refusals.{lentBuffer}
-use Rattle.model.specs.Runs.{run, HandedIn, EachCall, Always, sender, Reply, reply, toSender}
+use Rattle.model.specs.Runs.{run, HandedIn, Always, sender, Reply, reply, toSender}
 use Rattle.model.specs.Independence.{answers, BelowTop}
 use Rattle.model.specs.Agreement.{replies}
 use Rattle.model.specs.Sound.{loggingCall}
 use Rattle.model.specs.NewestFirst.{eventsOf, eventsGiven}
-use Rattle.model.specs.Waiting.{framesGiven, Spares, OverWithin}
+use Rattle.model.specs.Waiting.{framesGiven, OverWithin}
 use Rattle.model.proofs.Refusals.{refused-call, refused-setup}
 use Rattle.model.proofs.CallLaws.{step-timer}
 use Rattle.model.proofs.Premise.{elapsed-is-true}
 use Rattle.model.proofs.NewestFirst.{newest-first}
 use Rattle.model.proofs.Waiting.{requests-end-standard}
+use Rattle.model.proofs.Order.{frames-unordered, changes-equal-one, move-leaves-no-trace}
 use Rattle.model.proofs.Independence.{independent, independent-short-run}
 use Rattle.model.proofs.Agreement.{old-and-new-agree}
 use Rattle.station.specs.declared.Station.{Station}
@@ -34,7 +35,7 @@ use Rattle.station.specs.declared.Outcome.{Outcome}
 use Rattle.station.specs.Views.{view, viewOutcome}
 use Rattle.demands.specs.StationRoundTrip.{WellFormed, RoundTrip}
 use Rattle.demands.specs.Chains.{Made, Allowed, Chain, none-made, made, SetUp}
-use Rattle.demands.specs.Demands.{CodeLeftAlone, Total, CodeLeftUnnamed, TotalSetup, callOf, Exact, answered, replied, ShortOfTop, IndependentRequesters, IndependentShortChain, AnswersAsBefore, TimeIsTrue, givenTo, GivesNewestFirst, framesMade, SparedBy, CodeOverWithin, RequestsAreOver}
+use Rattle.demands.specs.Demands.{CodeLeftAlone, Total, CodeLeftUnnamed, TotalSetup, callOf, Exact, answered, replied, ShortOfTop, IndependentRequesters, IndependentShortChain, AnswersAsBefore, TimeIsTrue, givenTo, GivesNewestFirst, framesMade, CodeOverWithin, RequestsAreOver, MadeInOrder, OrderLeavesNoTrace}
 use Rattle.demands.proofs.StationRoundTrip.{station-round-trip}
 
 -- ---- what an allowed call gives is what the model gives
@@ -174,31 +175,24 @@ chain-handed : {g h : Station} {ms : List Made} → Chain g ms h → All HandedI
 chain-handed none-made = nil
 chain-handed (made a c) = also (a .handed-in) (chain-handed c)
 
-module _ (kind : Kind) (s : Address) where
-  chain-frames : {g h : Station} {ms : List Made} → Chain g ms h → framesMade kind s ms ≡ framesGiven elapsedClock standard kind s (view g) (map callOf ms)
-  unfolding framesMade framesGiven viewOutcome
-  chain-frames none-made = refl
-  chain-frames (made {g = g} {m = m} {ms = ms} a c) =
-      let there : framesMade kind s ms ≡ framesGiven elapsedClock standard kind s (step elapsedClock standard (view g) (m .call) .station) (map callOf ms) = chain-frames c ∙ ap (λ (x : Model·Station). framesGiven elapsedClock standard kind s x (map callOf ms)) (station-is a) in
-      rw (answer-is a, there)
-
-  chain-spared : (n : ℕ) {g h : Station} {ms : List Made} → Chain g ms h → All (SparedBy kind s n) ms → EachCall (Spares elapsedClock standard kind s n) elapsedClock standard (view g) (map callOf ms)
-  unfolding EachCall viewOutcome
-  chain-spared n none-made nil = tt
-  chain-spared n (made a c) (also p ps) = (rw (answer-is a) at p, rw (station-is a) at (chain-spared n c ps))
+chain-frames : (kind : Kind) (s : Address) {g h : Station} {ms : List Made} → Chain g ms h → framesMade kind s ms ≡ framesGiven elapsedClock standard kind s (view g) (map callOf ms)
+unfolding framesMade framesGiven viewOutcome
+chain-frames kind s none-made = refl
+chain-frames kind s (made {g = g} {m = m} {ms = ms} a c) =
+    let there : framesMade kind s ms ≡ framesGiven elapsedClock standard kind s (step elapsedClock standard (view g) (m .call) .station) (map callOf ms) = chain-frames kind s c ∙ ap (λ (x : Model·Station). framesGiven elapsedClock standard kind s x (map callOf ms)) (station-is a) in
+    rw (answer-is a, there)
 
 code-over-within : (kind : Kind) (bound : ℕ) → OverWithin elapsedClock standard kind bound → CodeOverWithin kind bound
 code-over-within kind bound x = record {
+  becomes = λ i l o ms g u c m later h a c′ t n d s b is opens.
+      let here = run-from-setup i l o u c in
+      rw (opened i l (map callOf ms) a here (frame t d s b) is)
+      (x .becomes i l (map callOf ms) (map callOf later) (chain-handed c) (chain-handed c′) t n d s b (rw here at opens));
   while-it-stays = λ i l o ms g u c m later h a c′ t n d s b is opens stays.
       let here = run-from-setup i l o u c in
       let after = opened i l (map callOf ms) a here (frame t d s b) is in
       rw (chain-frames kind s c′, after)
       (x .while-it-stays i l (map callOf ms) (map callOf later) (chain-handed c) (chain-handed c′) t n d s b (rw here at opens) (rw after at stays));
-  where-spared = λ i l o ms g u c m later h a c′ t n d s b is opens spared few.
-      let here = run-from-setup i l o u c in
-      let after = opened i l (map callOf ms) a here (frame t d s b) is in
-      rw after
-      (x .where-spared i l (map callOf ms) (map callOf later) (chain-handed c) (chain-handed c′) t n d s b (rw here at opens) (rw after at (chain-spared kind s n c′ spared)) (rw (chain-frames kind s c′, after) at few));
 }
   where
     opened : (i : List ℕ) (l : List Address) (cs : List Call) {g : Station} {m : Made} → Allowed g m → view g ≡ run elapsedClock standard (setup standard i l .station) cs → (y : Call) → m .call ≡ y
@@ -209,4 +203,51 @@ pub requests-are-over : RequestsAreOver
 requests-are-over = record {
   events = code-over-within Event 512 (requests-end-standard .events elapsedClock);
   diagnostics = code-over-within Diagnostic 8 (requests-end-standard .diagnostics elapsedClock);
+}
+
+-- ---- document 02 (j)
+
+-- one call, and the second of two, as the model has them
+made-one : {g : Station} {x : Made} → Allowed g x → (c : Call) → x .call ≡ c
+    → (view (x .outcome .station) ≡ step elapsedClock standard (view g) c .station) × (answered x ≡ reply elapsedClock standard (view g) c)
+unfolding reply viewOutcome
+made-one {g} {x} a c e = (
+  station-is a ∙ ap (λ (d : Call). step elapsedClock standard (view g) d .station) e,
+  (let here : answered x ≡ reply elapsedClock standard (view g) (x .call) = rw (answer-is a, buffer-is a) in here ∙ ap (reply elapsedClock standard (view g)) e),
+)
+
+made-second : {g : Station} {x y : Made} → MadeInOrder g x y → (c d : Call) → x .call ≡ c → y .call ≡ d
+    → (view (y .outcome .station) ≡ run elapsedClock standard (view g) (c ∷ d ∷ [])) × (answered y ≡ reply elapsedClock standard (step elapsedClock standard (view g) c .station) d)
+unfolding run
+made-second u c d e f =
+    let x = made-one (u .first) c e in
+    let y = made-one (u .second) d f in
+    (y .0 ∙ ap (λ (h : Model·Station). step elapsedClock standard h d .station) (x .0), y .1 ∙ ap (λ (h : Model·Station). reply elapsedClock standard h d) (x .0))
+
+pub order-leaves-no-trace : OrderLeavesNoTrace
+unfolding run reply viewOutcome
+order-leaves-no-trace = record {
+  frames = λ g x y y′ x′ u v t d e a b o p n ex ex′ ey ey′.
+      let c = frame t d a o in
+      let c′ = frame t e b p in
+      let m = frames-unordered standard (view g) t d e a b o p n in
+      record {
+        station = made-second u c c′ ex ey .0 ∙ m .same-station ∙ sym (made-second v c′ c ey′ ex′ .0);
+        one = made-one (u .first) c ex .1 ∙ sym (m .same-first) ∙ sym (made-second v c′ c ey′ ex′ .1);
+        other = made-second u c c′ ex ey .1 ∙ m .same-second ∙ sym (made-one (v .first) c′ ey′ .1);
+      };
+  changes = λ g x y u t l ex ey.
+      let c = change t l in
+      let m = changes-equal-one standard (view g) t l in (
+        made-second u c c ex ey .0 ∙ ap (λ (r : Result). r .station) m ∙ sym (made-one (u .first) c ex .0),
+        made-second u c c ex ey .1 ∙ ap (λ (r : Result). record { answer = r .answer; buffer = r .buffer }) m ∙ sym (made-one (u .first) c ex .1),
+      );
+  move = λ g x y alone u v t l m ex ey ez.
+      let c = roam t l in
+      let d = change t m in
+      let z = made-one v d ez in
+      let w = move-leaves-no-trace standard (view g) t l m in (
+        made-second u c d ex ey .1 ∙ w .same-reply ∙ sym (z .1),
+        λ e. made-second u c d ex ey .0 ∙ w .same-station (sym (ap (λ (r : Reply). r .answer) (z .1)) ∙ e) ∙ sym (z .0),
+      );
 }

@@ -1,7 +1,7 @@
--- The three demands and document 02 (c), (d) and (e), said of the code: for every chain of stations and answers in which each is what its method's contract allows of the
+-- The three demands and document 02 (c), (d), (e) and (j), said of the code: for every chain of stations and answers in which each is what its method's contract allows of the
 -- one before, the first from setup. Their proofs are in proofs/Demands.antt.
 -- Assumes nothing.
-use Prim.Native.Nat.{ℕ, _+_, _-_, _%_, _≤_, _<_, min}
+use Prim.Native.Nat.{ℕ, _+_, _-_, _%_, _<_, min}
 use mathlib.Core.Path.{_≡_}
 use mathlib.Core.Bool.{false}
 use mathlib.Core.List.{List, [], _∷_, map, flatten}
@@ -12,9 +12,10 @@ use Rattle.units.specs.Time.{turn, elapsedTop, elapsedSince}
 use Rattle.octets.specs.declared.numbers.Kind.{Kind}
 use Rattle.octets.specs.declared.numbers.Kind.the-variants.{Event, Diagnostic}
 use Rattle.octets.specs.declared.refusals.Refusal.{Refusal}
+use Rattle.octets.specs.Addresses.{same}
 use Rattle.requests.specs.Requests.{readRequest}
 use Rattle.model.specs.Clocks.{counterClock, elapsedClock}
-use Rattle.model.specs.Model.{standard, Address, Call, clock, frame, report, ofLength, turnedAway}
+use Rattle.model.specs.Model.{standard, Address, Call, clock, frame, report, roam, change, accepted, ofLength, turnedAway}
 use Rattle.model.specs.Outstanding.{outstandingDialog}
 use Rattle.model.specs.Stations.{setup, tick, readingOf, nobody}
 use Rattle.model.specs.Refusals.{lentBuffer, causesOf, setupCauses, RefusedBy}
@@ -23,7 +24,7 @@ use Rattle.model.specs.Independence.{from, freshAnswers}
 use Rattle.model.specs.Agreement.{replies, Young}
 use Rattle.model.specs.NewestFirst.{requestReports, eventsOf, OpensEvents, LetsBe, GivenInOrder}
 use Rattle.model.specs.Premise.{LessThanTurnApart, latest}
-use Rattle.model.specs.Waiting.{Opens, Stays, framesFor, endsRequest, OverIn}
+use Rattle.model.specs.Waiting.{Opens, Stays, framesFor, Becomes}
 use Rattle.requesters.specs.Views.{viewAnswer}
 use Rattle.station.specs.declared.Station.{Station}
 use Rattle.station.specs.declared.Outcome.{Outcome}
@@ -125,10 +126,6 @@ unfoldable pub framesMade : Kind → Address → List Made → ℕ
 framesMade kind s [] = 0
 framesMade kind s (m ∷ ms) = framesFor kind s (m .call) (answered m .answer) + framesMade kind s ms
 
--- "neither replaced nor ended by a move or network change"
-abbrev pub SparedBy : Kind → Address → ℕ → Made → Type 0
-SparedBy kind s n m = endsRequest standard kind s n (m .call) (answered m .answer) ≡ false
-
 -- what is said of a request of s with the dialog token n that a frame call m opened, of the station that m returned, and of the later calls
 abbrev pub OnceMade : Kind → (Address → ℕ → Station → List Made → Type 0) → Type 0
 OnceMade kind P =
@@ -137,14 +134,36 @@ OnceMade kind P =
     → (t n : ℕ) (d s : Address) (b : List ℕ) → m .call ≡ frame t d s b → Opens elapsedClock standard kind s n (view g) t d b
     → P s n (m .outcome .station) later
 
--- while it stays, fewer frames were given; and where it is spared, it is over once so many were
 pub record CodeOverWithin (kind : Kind) (bound : ℕ) : Type 0 where
+  pub becomes : OnceMade kind (λ s n g later. Becomes elapsedClock standard kind s n bound (view g) (map callOf later))
   pub while-it-stays : OnceMade kind (λ s n g later. EachCall (Stays elapsedClock standard kind s n) elapsedClock standard (view g) (map callOf later)
       → framesMade kind s later < bound)
-  pub where-spared : OnceMade kind (λ s n g later. All (SparedBy kind s n) later → bound ≤ framesMade kind s later
-      → OverIn elapsedClock standard kind s n bound (view g) (map callOf later))
 
 -- "it is over after at most 512 report calls"; "Diagnostics: at most eight."
 pub record RequestsAreOver : Type 0 where
   pub events : CodeOverWithin Event 512
   pub diagnostics : CodeOverWithin Diagnostic 8
+
+-- ---- document 02 (j)
+
+-- two calls, of which the second is made on the station that the first returned
+pub record MadeInOrder (g : Station) (x y : Made) : Type 0 where
+  pub first : Allowed g x
+  pub second : Allowed (x .outcome .station) y
+
+-- "the same gate .., with the same answers", whatever the calls returned: x, then y, and y′, then x′
+pub record SameEitherWay (x y y′ x′ : Made) : Type 0 where
+  pub station : view (y .outcome .station) ≡ view (x′ .outcome .station)
+  pub one : answered x ≡ answered x′
+  pub other : answered y ≡ answered y′
+
+-- "two request frames from different consoles, taken at the same reading"; "two equal network changes at one reading equal one"; "a move,
+-- then an accepted network change at the same reading, equal that change alone"
+pub record OrderLeavesNoTrace : Type 0 where
+  pub frames : (g : Station) (x y y′ x′ : Made) → MadeInOrder g x y → MadeInOrder g y′ x′ → (t : ℕ) (d e a b : Address) (o p : List ℕ) → same a b ≡ false
+      → x .call ≡ frame t d a o → x′ .call ≡ frame t d a o → y .call ≡ frame t e b p → y′ .call ≡ frame t e b p → SameEitherWay x y y′ x′
+  pub changes : (g : Station) (x y : Made) → MadeInOrder g x y → (t : ℕ) (l : List Address) → x .call ≡ change t l → y .call ≡ change t l
+      → (view (y .outcome .station) ≡ view (x .outcome .station)) × (answered y ≡ answered x)
+  pub move : (g : Station) (x y alone : Made) → MadeInOrder g x y → Allowed g alone → (t : ℕ) (l m : List Address) → x .call ≡ roam t l → y .call ≡ change t m
+      → alone .call ≡ change t m → (answered y ≡ answered alone)
+      × (viewAnswer (alone .outcome .answer) ≡ accepted → view (y .outcome .station) ≡ view (alone .outcome .station))

@@ -6,6 +6,7 @@ pub mod NextEvent
 pub mod FramesLeft
 pub mod Waiting
 pub mod WaitingCases
+pub mod Order
 pub mod Retimed
 pub mod Paired
 pub mod Premise

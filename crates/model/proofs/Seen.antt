@@ -261,7 +261,7 @@ quiet-step k most s (change t l) v = refl
 
 -- ---- the reply to a sender follows from what it sees
 
-abbrev replyOf : Result → Reply
+abbrev pub replyOf : Result → Reply
 replyOf x = record { answer = x .answer; buffer = x .buffer }
 
 unfoldable pub servedReply : (Requester → Served) → List ℕ → Option Requester → Reply

@@ -35,7 +35,7 @@ use Rattle.model.specs.Stations.{refusedFor, setup, timed, tickRequester
 use Rattle.model.specs.Runs.{run, HandedIn, EachCall}
 use Rattle.model.specs.Sound.{Identified, identified, unidentified}
 use Rattle.model.specs.Independence.{isAccepted}
-use Rattle.model.specs.Waiting.{Opens, Stays, sameKind, framesIn, framesFor, framesGiven, cancels, endsRequest, Spares, IsOver, late, done, AsWorded, OverIn, OnceOpened, OverWithin, RequestsEnd, RequestsEndStandard}
+use Rattle.model.specs.Waiting.{Opens, Stays, sameKind, framesIn, framesFor, framesGiven, cancels, endsRequest, Spares, IsOver, late, done, AsWorded, UpToCall, Becomes, still, over-at, ended-at, OnceOpened, OverWithin, RequestsEnd, RequestsEndStandard}
 use Rattle.model.proofs.Seen.{find-map, put-own, put-other, Keeps, tick-keeps, log-keeps, ServeKeeps, take-keeps, give-keeps}
 use Rattle.model.proofs.CallLaws.{step-identity, act-log, setup-blank}
 use Rattle.model.proofs.Sound.{always-sound}
@@ -256,42 +256,40 @@ module _ (k : Clock) (most : Capacities) (kind : Kind) (s : Address) (n : ℕ) w
   calls-fall (c ∷ cs) g (also h hs) short was e =
       omega (arith, call-falls g c short was (e .0), calls-fall cs (step k most g c .station) hs (step-short k most g c h short) (e .0 .1) (e .1))
 
-  over-here : (bound : ℕ) (g : Station) (c : Call) (cs : List Call) → 1 ≤ bound → IsOver k most kind s g c → OverIn k most kind s n bound g (c ∷ cs)
-  unfolding EachCall framesGiven run
-  over-here bound g c cs one o = record {
-    earlier = [];
-    call = c;
-    later = cs;
-    split = refl;
-    stayed = tt;
-    over = o;
-    few = omega (arith, frames-one kind s c (step k most g c .answer));
-  }
+  -- a call that is the first, or one behind it
+  here : (g : Station) (c : Call) (cs : List Call) → UpToCall k most kind s n g (c ∷ cs)
+  unfolding EachCall
+  here g c cs = record { earlier = []; call = c; later = cs; split = refl; stayed = tt }
 
-  over-behind : (bound rest : ℕ) (g : Station) (c : Call) (cs : List Call) → framesFor kind s c (step k most g c .answer) + rest ≤ bound → Stays k most kind s n g c
-      → OverIn k most kind s n rest (step k most g c .station) cs → OverIn k most kind s n bound g (c ∷ cs)
-  unfolding EachCall framesGiven run
-  over-behind bound rest g c cs h e o = record {
-    earlier = c ∷ o .earlier;
-    call = o .call;
-    later = o .later;
-    split = ap (λ (l : List Call). c ∷ l) (o .split);
-    stayed = (e, o .stayed);
-    over = o .over;
-    few = omega (arith, o .few);
-  }
+  behind : (g : Station) (c : Call) (cs : List Call) → Stays k most kind s n g c → UpToCall k most kind s n (step k most g c .station) cs → UpToCall k most kind s n g (c ∷ cs)
+  unfolding EachCall
+  behind g c cs e x = record { earlier = c ∷ x .earlier; call = x .call; later = x .later; split = ap (λ (l : List Call). c ∷ l) (x .split); stayed = (e, x .stayed) }
 
-  calls-over : (cs : List Call) (g : Station) (bound : ℕ) → All HandedIn cs → ShortIn g → outstandingDialog kind s g ≡ some n → framesLeft g ≤ bound
-      → EachCall (Spares k most kind s n) k most g cs → bound ≤ framesGiven k most kind s g cs → OverIn k most kind s n bound g cs
-  unfolding EachCall framesGiven
-  calls-over [] g bound nil short was m e h = absurd (omega (arith, some-left kind (find s (g .requesters))))
-  calls-over (c ∷ cs) g bound (also h hs) short was m e j =
-      let frames = framesFor kind s c (step k most g c .answer) in
-      ⊎-elim
-      (λ p. let f = call-falls g c short was p in
-      over-behind bound (bound - frames) g c cs (omega (arith, f)) p
-      (calls-over cs (step k most g c .station) (bound - frames) hs (step-short k most g c h short) (p .1) (omega (arith, f)) (e .1) (omega arith)))
-      (over-here bound g c cs (omega (arith, some-left kind (find s (g .requesters))))) (stays-or-over g c was (e .0))
+  becomes-behind : (bound rest : ℕ) (g : Station) (c : Call) (cs : List Call) → framesFor kind s c (step k most g c .answer) + rest ≤ bound → Stays k most kind s n g c
+      → Becomes k most kind s n rest (step k most g c .station) cs → Becomes k most kind s n bound g (c ∷ cs)
+  unfolding EachCall framesGiven run behind
+  becomes-behind bound rest g c cs h e (still x few) = still (e, x) (omega arith)
+  becomes-behind bound rest g c cs h e (over-at x is few) = over-at (behind g c cs e x) is (omega arith)
+  becomes-behind bound rest g c cs h e (ended-at x was is) = ended-at (behind g c cs e x) was is
+
+  calls-become : (cs : List Call) (g : Station) (bound : ℕ) → All HandedIn cs → ShortIn g → outstandingDialog kind s g ≡ some n → framesLeft g ≤ bound → Becomes k most kind s n bound g cs
+  unfolding EachCall framesGiven run here
+  calls-become [] g bound nil short was m = still tt (omega (arith, some-left kind (find s (g .requesters))))
+  calls-become (c ∷ cs) g bound (also h hs) short was m =
+      by-fate (endsRequest most kind s n c (step k most g c .answer)) refl (λ p j. calls-become cs (step k most g c .station) _ hs (step-short k most g c h short) p j)
+    where
+      frames : ℕ
+      frames = framesFor kind s c (step k most g c .answer)
+
+      is-over : IsOver k most kind s g c → Becomes k most kind s n bound g (c ∷ cs)
+      is-over o = over-at (here g c cs) o (omega (arith, frames-one kind s c (step k most g c .answer), some-left kind (find s (g .requesters))))
+
+      by-fate : (b : Bool) → endsRequest most kind s n c (step k most g c .answer) ≡ b
+          → (outstandingDialog kind s (step k most g c .station) ≡ some n → framesLeft (step k most g c .station) ≤ bound - frames → Becomes k most kind s n (bound - frames) (step k most g c .station) cs)
+          → Becomes k most kind s n bound g (c ∷ cs)
+      by-fate true e rest = ⊎-elim (λ p. ended-at (here g c cs) p e) (λ p. is-over (late p)) (fate-either (drop-fate (readingOf c) g was) refl)
+      by-fate false e rest =
+          ⊎-elim (λ p. let f = call-falls g c short was p in becomes-behind bound (bound - frames) g c cs (omega (arith, f)) p (rest (p .1) (omega (arith, f)))) is-over (stays-or-over g c was e)
 
   -- ---- the frame that opens it
 
@@ -352,12 +350,12 @@ module _ (k : Clock) (most : Capacities) (kind : Kind) (enough : (i : List ℕ) 
 
   over-within : OverWithin k most kind (mostFrames most kind)
   over-within = record {
+    becomes =
+        once-opened (λ s n g later. Becomes k most kind s n (mostFrames most kind) g later)
+        (λ s n g later h short was m. calls-become k most kind s n later g (mostFrames most kind) h short was m);
     while-it-stays =
         once-opened (λ s n g later. EachCall (Stays k most kind s n) k most g later → framesGiven k most kind s g later < mostFrames most kind)
         (λ s n g later h short was m e. omega (arith, calls-fall k most kind s n later g h short was e));
-    where-spared =
-        once-opened (λ s n g later. EachCall (Spares k most kind s n) k most g later → mostFrames most kind ≤ framesGiven k most kind s g later → OverIn k most kind s n (mostFrames most kind) g later)
-        (λ s n g later h short was m. calls-over k most kind s n later g (mostFrames most kind) h short was m);
   }
 
 pub as-worded : AsWorded

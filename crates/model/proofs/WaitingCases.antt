@@ -1,14 +1,13 @@
--- Document 02 (e) speaks of something: requests of both kinds that stay through a first frame and are over with the second, by computation;
--- one that is over with its header-only frame; and a gate of one event and one element, where the theorem says so of that frame.
+-- Document 02 (e) speaks of something, by computation: requests of both kinds that stay through a first frame and are over with the second,
+-- and one that is over with its header-only frame.
 -- Assumes nothing.
-use Prim.Native.Nat.{ℕ, _≤_}
+use Prim.Native.Nat.{ℕ}
 use mathlib.Core.Path.{_≡_, refl}
 use mathlib.Core.List.{List, [], _∷_, _++_}
 use mathlib.Core.Option.{none, some}
-use native.Mathlib.Omega.{arith}
 use lib.ListN.{replicate}
 use Rattle.laws.specs.Choice.{if_then_else_}
-use Rattle.laws.specs.Members.{nil, also, any}
+use Rattle.laws.specs.Members.{any}
 use Rattle.laws.specs.Walk.{repeatWhile}
 use Rattle.laws.proofs.Choice.{never}
 use Rattle.octets.specs.declared.numbers.Kind.{Kind}
@@ -39,8 +38,7 @@ use Rattle.model.specs.Diagnostics.{diagnosticTreatment, isLate, onTime,
 use Rattle.model.specs.Stations.{setup, timed, tickRequester, withoutLate, logRequester, logEntry, logCause, logCall, withRequester, serveFound, serveListed, takeKind, takeRequest, requestCall, frameCall, giveEvents, giveDiagnostics, ifOutstanding, octetsOf, giveKind, giveReport, reportCall, act, readingOf, step}
 use Rattle.model.specs.Runs.{run, EachCall}
 use Rattle.model.specs.Starred.{someIdentity, someConsole, someGate, slowTransition}
-use Rattle.model.specs.Waiting.{Opens, Stays, framesIn, framesFor, framesGiven, endsRequest, OverIn}
-use Rattle.model.proofs.Waiting.{requests-end}
+use Rattle.model.specs.Waiting.{Opens, Stays, framesIn, framesFor, framesGiven}
 
 abbrev asks : List ℕ → Call
 asks o = frame 20 someConsole someConsole o
@@ -73,15 +71,13 @@ diagnostics : TwoFrames Diagnostic (setup standard longIdentity (someConsole ∷
 unfolding longIdentity someConsole if_then_else_ repeatWhile same pieceEnd wholeStep Subelements·step walk subelementsOf any badToken withElement ownRequestStep elementStep walkElements frameKind frameCause requestOf headerCause readRequest stands passRow goodFrom goodIdentity reportElement repeated badList newRequester find put dialogOf dialogIn replace fillWith fill nextFrame diagnosticTreatment isLate onTime unlessOver dropLate diagnosticsOf takeDiagnostics diagnosticReport nextDiagnostic elapsedAt setup timed tickRequester withoutLate withRequester serveFound serveListed takeKind takeRequest requestCall frameCall giveDiagnostics ifOutstanding octetsOf giveKind giveReport reportCall act readingOf step run EachCall framesIn framesFor framesGiven
 diagnostics = record { opens = record { was-not = λ e. never cc; is-now = refl }; stays = ((refl, refl), tt); given = refl; over = refl }
 
--- an event request with no element, on a gate whose bound is one frame
+-- an event request with no element: one frame, header-only; on a gate of one event and one element that is the bound
 tiny : Capacities
 tiny = record { events = 1; requesters = 1; elements = 1 }
 
-abbrev tinyGate : Station
-tinyGate = setup tiny someIdentity (someConsole ∷ []) .station
-
-header-only : OverIn elapsedClock tiny Event someConsole 7 1 (step elapsedClock tiny tinyGate (asks (10 ∷ 0 ∷ 7 ∷ [])) .station) (reports Event ∷ [])
-unfolding tiny someIdentity someConsole if_then_else_ repeatWhile same pieceEnd walkElements frameKind frameCause requestOf headerCause readRequest stands passRow goodFrom goodIdentity repeated badList newRequester find put any dialogOf dialogIn replace fillWith fill nextFrame openEvents takeEvents nextFrom nextEvent unlessDone dropLate elapsedAt setup timed tickRequester withoutLate withRequester serveFound serveListed takeKind takeRequest requestCall frameCall giveEvents ifOutstanding giveKind giveReport reportCall act readingOf step run EachCall framesIn framesFor framesGiven endsRequest
-header-only =
-    requests-end .events elapsedClock tiny (omega arith) (omega arith) .where-spared someIdentity (someConsole ∷ []) [] (reports Event ∷ []) nil (also tt nil) 20 7 someConsole someConsole (10 ∷ 0 ∷ 7 ∷ [])
-    (record { was-not = λ e. never cc; is-now = refl }) (refl, tt) (omega arith)
+header-only : let h = step elapsedClock tiny (setup tiny someIdentity (someConsole ∷ []) .station) (asks (10 ∷ 0 ∷ 7 ∷ [])) .station in
+    (outstandingDialog Event someConsole h ≡ some 7)
+    × (framesGiven elapsedClock tiny Event someConsole h (reports Event ∷ []) ≡ 1)
+    × (outstandingDialog Event someConsole (run elapsedClock tiny h (reports Event ∷ [])) ≡ none)
+unfolding tiny someIdentity someConsole if_then_else_ repeatWhile same pieceEnd walkElements frameKind frameCause requestOf headerCause readRequest stands passRow goodFrom goodIdentity repeated badList newRequester find put any dialogOf dialogIn replace fillWith fill nextFrame openEvents takeEvents nextFrom nextEvent unlessDone dropLate elapsedAt setup timed tickRequester withoutLate withRequester serveFound serveListed takeKind takeRequest requestCall frameCall giveEvents ifOutstanding giveKind giveReport reportCall act readingOf step run framesIn framesFor framesGiven
+header-only = (refl, refl, refl)

@@ -17,5 +17,6 @@ pub mod Ages
 pub mod Agreement
 pub mod Premise
 pub mod Waiting
+pub mod Order
 pub mod Starred
 pub mod StoredGate

@@ -104,17 +104,25 @@ pub record AsWorded : Type 0 where
 
 -- ---- when it is over
 
--- it is over at a call of a list, up to which it stays, and at most so many frames were given when that call ended
-pub record OverIn (k : Clock) (most : Capacities) (kind : Kind) (s : Address) (n bound : ℕ) (g : Station) (cs : List Call) : Type 0 where
+-- a call of a list, up to which its token stays outstanding
+pub record UpToCall (k : Clock) (most : Capacities) (kind : Kind) (s : Address) (n : ℕ) (g : Station) (cs : List Call) : Type 0 where
   pub earlier : List Call
   pub call : Call
   pub later : List Call
   pub split : cs ≡ earlier ++ (call ∷ later)
   pub stayed : EachCall (Stays k most kind s n) k most g earlier
-  pub over : IsOver k most kind s (run k most g earlier) call
-  pub few : framesGiven k most kind s g (earlier ++ (call ∷ [])) ≤ bound
 
--- what is said of a request of s with the dialog token n that a frame opened, of the station after that frame, and of the later calls
+-- what becomes of it in a list of calls: its token stays outstanding, and fewer frames than the bound were given; or it is over at a call, at
+-- whose end at most so many were given; or a call replaces or ends it
+pub data Becomes (k : Clock) (most : Capacities) (kind : Kind) (s : Address) (n bound : ℕ) (g : Station) (cs : List Call) : Type 0 where
+  still : EachCall (Stays k most kind s n) k most g cs → framesGiven k most kind s g cs < bound → Becomes k most kind s n bound g cs
+  over-at : (x : UpToCall k most kind s n g cs) → IsOver k most kind s (run k most g (x .earlier)) (x .call)
+      → framesGiven k most kind s g (x .earlier ++ (x .call ∷ [])) ≤ bound → Becomes k most kind s n bound g cs
+  ended-at : (x : UpToCall k most kind s n g cs) → outstandingDialog kind s (tick k (readingOf (x .call)) (run k most g (x .earlier))) ≡ some n
+      → endsRequest most kind s n (x .call) (step k most (run k most g (x .earlier)) (x .call) .answer) ≡ true → Becomes k most kind s n bound g cs
+
+-- what is said of a request of s with the dialog token n that a frame opened, of the station after that frame, and of the later calls; on every
+-- station that setup and calls lead to
 abbrev pub OnceOpened : Clock → Capacities → Kind → (Address → ℕ → Station → List Call → Type 0) → Type 0
 OnceOpened k most kind P =
     (i : List ℕ) (l : List Address) (earlier later : List Call) → All HandedIn earlier → All HandedIn later
@@ -122,13 +130,12 @@ OnceOpened k most kind P =
     (t n : ℕ) (d s : Address) (o : List ℕ) → Opens k most kind s n g t d o → P s n (step k most g (frame t d s o) .station) later
 
 -- "it is over after at most .. report calls by its own console for that kind that give a frame .., however much is logged or dropped and
--- whatever the other consoles do": while it stays, fewer were given; and where it is spared, it is over once so many were
+-- whatever the other consoles do"
 pub record OverWithin (k : Clock) (most : Capacities) (kind : Kind) (bound : ℕ) : Type 0 where
+  pub becomes : OnceOpened k most kind (λ s n g later. Becomes k most kind s n bound g later)
   pub while-it-stays : OnceOpened k most kind (λ s n g later. EachCall (Stays k most kind s n) k most g later → framesGiven k most kind s g later < bound)
-  pub where-spared : OnceOpened k most kind (λ s n g later. EachCall (Spares k most kind s n) k most g later
-      → bound ≤ framesGiven k most kind s g later → OverIn k most kind s n bound g later)
 
--- "(eight elements of up to 64 events)"; "Diagnostics: at most eight."
+-- "(eight elements of up to 64 events)", of a station that holds an event and an element; "Diagnostics: at most eight."
 pub record RequestsEnd : Type 0 where
   pub events : (k : Clock) (most : Capacities) → 1 ≤ most .events → 1 ≤ most .elements → OverWithin k most Event (most .elements * most .events)
   pub diagnostics : (k : Clock) (most : Capacities) → OverWithin k most Diagnostic (most .elements)
