@@ -1,4 +1,4 @@
-//! A separately written reader and gate for document 01 and requests (a), (c) and (d) of document 02, and the
+//! A separately written reader and gate for document 01 and requests (a), (c), (d) and (f) of document 02, and the
 //! differential tests made with it.
 
 // The reader and the gate.
@@ -6,6 +6,7 @@ pub mod clock;
 pub mod condition;
 pub mod event_body;
 pub mod event_request;
+pub mod explain;
 pub mod listing;
 pub mod octets;
 pub mod peer_link;
@@ -25,6 +26,7 @@ pub mod damage;
 pub mod kind_cases;
 pub mod make_events;
 pub mod make_identity;
+pub mod make_questions;
 pub mod make_reports;
 pub mod make_requests;
 pub mod make_traces;
@@ -38,6 +40,7 @@ pub mod agreement;
 pub mod answers;
 pub mod compare;
 pub mod covered;
+pub mod explained;
 pub mod independence;
 pub mod order;
 pub mod phases;

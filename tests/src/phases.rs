@@ -4,14 +4,16 @@ use crate::agreement::check_agreement;
 use crate::cases::{cases, limits, Input};
 use crate::clock_cases::clock_cases;
 use crate::compare::{compare_frame, compare_report, compare_trace, Difference};
+use crate::explain::Question;
 use crate::independence::check_independence;
 use crate::kind_cases::{kind_cases, kind_limits};
 use crate::make_events::log_record;
 use crate::make_identity::{identity, STATION};
+use crate::make_questions::question;
 use crate::make_reports::report_frame;
 use crate::make_requests::{request_frame, Taste};
 use crate::make_traces::trace;
-use crate::octets::Kind;
+use crate::octets::{part_at, Kind, HEADER};
 use crate::order_cases::order_cases;
 use crate::program::Programs;
 use crate::random::Random;
@@ -150,28 +152,42 @@ pub fn request_frames(random: &mut Random, number: usize) -> Made {
     made
 }
 
-/// So many report frames.
+/// So many report frames, and questions to a gate that logged nothing.
 pub fn report_frames(random: &mut Random, number: usize) -> Made {
     let mut made = Made::default();
     for _ in 0..number {
         let (destination, octets) = report_frame(random);
         made.alone.push([&destination[..], &octets].concat());
         made.records.push(write_record(&Record::Read { destination, octets }));
+        if random.percent(5) {
+            made.records.push(write_record(&Record::Explain(question(random, &[], 50))));
+        }
     }
     made
 }
 
-/// A newly set up station with one event of each kind, a frame from its requester, and one report call.
-fn fresh_station(random: &mut Random, octets: Vec<u8>, kind: Kind) -> [Record; 6] {
+/// A newly set up station with one event of each kind, a frame from its requester, a question about the frame's
+/// first element, or what is there of it, and one report call.
+fn fresh_station(random: &mut Random, octets: Vec<u8>, kind: Kind) -> [Record; 7] {
     let console = [2, 0, 0, 0, 0, 1];
     let buffer = random.pick(&[260, 300, 330]);
     let taken = random.pick(&[1, 2, 16, 17]);
+    let element = first_element(&octets);
+    let (count, position) = (random.pick(&[0, 1, 2, 3, 3, 3, 4]), random.pick(&[0, 0, 1, 1, 2, 2, 3]));
     [
         Record::Setup { identity: identity(random, 0), list: vec![console] },
         log_record(random, 0, taken, taken, 0),
         log_record(random, 1, 18, 0, 0),
         log_record(random, 2, 19, 0, 0),
         Record::Frame { reading: 20, destination: STATION, source: console, octets },
+        Record::Explain(Question { element, count, position }),
         Record::Report { reading: 20, console, kind, buffer, fill: 0xEE },
     ]
+}
+
+/// What stands behind a frame's header, up to the end of the first element if it has one.
+fn first_element(frame: &[u8]) -> Vec<u8> {
+    let behind = frame.get(HEADER..).unwrap_or(&[]);
+    let end = part_at(behind, 0).map_or(behind.len(), |element| element.next);
+    behind[..end].to_vec()
 }

@@ -30,7 +30,7 @@ impl Count {
 #[derive(Default)]
 pub struct Tally {
     lines: Count,
-    refusals: [Count; 18],
+    refusals: [Count; 19],
     answers: Count,
     after_change: Count,
     agreed: Count,
