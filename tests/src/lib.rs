@@ -23,6 +23,7 @@ pub mod transition;
 pub mod cases;
 pub mod clock_cases;
 pub mod damage;
+pub mod explain_cases;
 pub mod kind_cases;
 pub mod make_events;
 pub mod make_identity;

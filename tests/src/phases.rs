@@ -5,6 +5,7 @@ use crate::cases::{cases, limits, Input};
 use crate::clock_cases::clock_cases;
 use crate::compare::{compare_frame, compare_report, compare_trace, Difference};
 use crate::explain::Question;
+use crate::explain_cases::explain_cases;
 use crate::independence::check_independence;
 use crate::kind_cases::{kind_cases, kind_limits};
 use crate::make_events::log_record;
@@ -126,7 +127,12 @@ impl Run {
 
 /// The papers' cases and the limits of traces and frames.
 pub fn fixed_inputs() -> Vec<Input> {
-    let cases = cases().into_iter().chain(kind_cases()).chain(clock_cases()).chain(order_cases());
+    let cases = cases()
+        .into_iter()
+        .chain(kind_cases())
+        .chain(clock_cases())
+        .chain(order_cases())
+        .chain(explain_cases());
     let waiting = waiting_cases().into_iter().map(|(case, _)| case);
     cases.chain(waiting).map(|case| case.input).chain(limits()).chain(kind_limits()).collect()
 }
