@@ -7,7 +7,7 @@ use crate::explain::Question;
 use crate::kind_cases::{octets_of, EXPANDED};
 use crate::octets::Kind;
 use crate::script::{elements, numbered, transition, Script, LEAST};
-use crate::trace::Record;
+use crate::trace::{question_octets, write_record, Record};
 
 const AFTER: &str = "logged after acceptance";
 const WRONG_TYPE: &str = "wrong type";
@@ -377,6 +377,96 @@ pub fn explain_cases() -> Vec<Case> {
     cases.extend((0..3).map(conditions_of_a_kind));
     cases.extend((0..3).map(refusals_of_a_kind));
     cases.extend([other_elements(), limits_and_conditions(), frequent()]);
-    cases.extend([no_call(), bad_records()].concat());
+    cases.extend([no_call(), bad_records(), program_cases()].concat());
     cases
+}
+
+/// The program `explain`: a question's fields, and then a trace.
+fn program_cases() -> Vec<Case> {
+    let log = |numbers: &[u8]| -> Vec<Vec<u8>> {
+        numbers.iter().map(|number| write_record(&numbered(10, 0, *number))).collect()
+    };
+    let set_up = |numbers: &[u8]| [vec![write_record(&setup())], log(numbers)].concat();
+    let fields = |element: &[u8], count, position| {
+        question_octets(&Question { element: element.to_vec(), count, position })
+    };
+    let case = |title: &'static str, fields: Vec<u8>, records: Vec<Vec<u8>>, line: &str| Case {
+        title,
+        input: Input::Explain(fields, records),
+        printed: format!("{line}\n"),
+    };
+    let (one, wrong) = (asked(0, 1, &[]), asked(0, 1, &[&[0, 1, 0]]));
+    let clock = write_record(&Record::Clock { reading: 0 });
+    // 52,428 records of 5 octets are 262,140 octets.
+    let longest: Vec<Vec<u8>> = (0..52_428).map(|_| clock.clone()).collect();
+    let with = |last: &[u8]| [&longest[..], &[last.to_vec()]].concat();
+    let one_less: Vec<Vec<u8>> = longest[1..].to_vec();
+    vec![
+        case("explain, program: limit reached", fields(&one, 2, 0), set_up(&[1, 2, 3]), LIMIT),
+        case("explain, program: reported", fields(&one, 2, 1), set_up(&[1, 2, 3]), REPORTED),
+        case("explain, program: after", fields(&one, 2, 2), set_up(&[1, 2, 3]), AFTER),
+        case("explain, program: 18", fields(&one, 2, 3), set_up(&[1, 2, 3]), "refused 18 at 0"),
+        case("explain, program: 7", fields(&wrong, 2, 3), set_up(&[1, 2, 3]), "refused 7 at 5"),
+        case("explain, program: 4", fields(&[], 2, 0), set_up(&[1]), "refused 4 at 0"),
+        case("explain, program: wrong type", fields(&asked(2, 1, &[]), 2, 0), set_up(&[1]), WRONG_TYPE),
+        case(
+            "explain, program: condition",
+            fields(&asked(0, 1, &[&[3, 1, 2]]), 2, 0),
+            set_up(&[1]),
+            "condition 3",
+        ),
+        case("explain, program: no setup", fields(&one, 1, 0), log(&[1]), REPORTED),
+        case("explain, program: an empty trace", fields(&one, 1, 0), Vec::new(), "refused 18 at 0"),
+        case("explain, program: an empty trace, 4", fields(&[], 1, 0), Vec::new(), "refused 4 at 0"),
+        // A question in the trace prints nothing and changes nothing.
+        case(
+            "explain, program: a question in the trace",
+            fields(&one, 2, 0),
+            [set_up(&[1, 2]), vec![write_record(&explain(&wrong, 0, 0))]].concat(),
+            LIMIT,
+        ),
+        // A setup has 1 + 2 + 17 + 1 + 6 = 27 octets, a logging 1 + 4 + 9 + 12 + 1 + 2 + 4 + 4 = 37.
+        case(
+            "explain, program: an unknown record",
+            fields(&one, 2, 0),
+            [set_up(&[1]), vec![vec![0xFF]]].concat(),
+            "trace refused at 64",
+        ),
+        case(
+            "explain, program: a refused trace comes before the element",
+            fields(&[], 2, 9),
+            [set_up(&[1]), vec![vec![1, 0, 0]]].concat(),
+            "trace refused at 64",
+        ),
+        case("explain, program: refused at once", fields(&one, 2, 0), vec![vec![9]], "trace refused at 0"),
+        case("explain, program: no input", Vec::new(), Vec::new(), "trace refused at 0"),
+        case("explain, program: length cut", vec![5], Vec::new(), "trace refused at 0"),
+        case("explain, program: element cut", octets_of("05004e030500"), Vec::new(), "trace refused at 0"),
+        case(
+            "explain, program: no position",
+            octets_of("05004e030500010200"),
+            Vec::new(),
+            "trace refused at 0",
+        ),
+        case(
+            "explain, program: position cut",
+            octets_of("05004e03050001020000"),
+            Vec::new(),
+            "trace refused at 0",
+        ),
+        // An element of 4,096 octets is read, and is no element; one of 4,097 is not read.
+        case("explain, program: 4,096", fields(&[78; 4096], 2, 0), set_up(&[1]), "refused 4 at 0"),
+        case("explain, program: 4,097", fields(&[78; 4097], 2, 0), set_up(&[1]), "trace refused at 0"),
+        // The trace's own limit: 262,140 octets and 262,145, whose last record is cut by it.
+        case("explain, program: 262,140", fields(&one, 2, 0), longest.clone(), "refused 18 at 0"),
+        case("explain, program: 262,144", fields(&one, 2, 0), with(&[1, 0, 0, 0]), "trace refused at 262140"),
+        case("explain, program: 262,145", fields(&one, 2, 0), with(&clock), "trace refused at 262140"),
+        // 52,427 clocks are 262,135 octets; a question with an element of 2 octets has 9.
+        case(
+            "explain, program: 262,144 in whole records",
+            fields(&one, 2, 0),
+            [one_less, vec![write_record(&explain(&[78, 0], 0, 0))]].concat(),
+            "refused 18 at 0",
+        ),
+    ]
 }

@@ -37,6 +37,7 @@ pub mod script;
 pub mod waiting_cases;
 
 // The runner.
+pub mod absent;
 pub mod agreement;
 pub mod answers;
 pub mod compare;

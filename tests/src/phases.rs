@@ -1,9 +1,10 @@
 //! The phases of a run: fixed cases, request frames, report frames, traces.
 
+use crate::absent::check_absent;
 use crate::agreement::check_agreement;
 use crate::cases::{cases, limits, Input};
 use crate::clock_cases::clock_cases;
-use crate::compare::{compare_frame, compare_report, compare_trace, Difference};
+use crate::compare::{compare_explain, compare_frame, compare_report, compare_trace, Difference};
 use crate::explain::Question;
 use crate::explain_cases::explain_cases;
 use crate::independence::check_independence;
@@ -20,7 +21,7 @@ use crate::program::Programs;
 use crate::random::Random;
 use crate::read_back::check_read_back;
 use crate::tally::Tally;
-use crate::trace::{write_record, Record};
+use crate::trace::{read_record, write_record, Record};
 use crate::waiting::{check_waiting, Waiting};
 use crate::waiting_cases::waiting_cases;
 use std::sync::atomic::{AtomicBool, AtomicUsize, Ordering};
@@ -31,7 +32,8 @@ use std::thread;
 const FRAMES_IN_TRACE: usize = 400;
 /// Report frames that go into one trace.
 const REPORTS_IN_TRACE: usize = 900;
-/// One frame in so many is also given to `frame` or `report` itself.
+/// One frame in so many is also given to `frame` or `report` itself, the questions of one trace in so many to
+/// `explain`.
 const BY_ITSELF: usize = 10;
 
 /// What a run works with.
@@ -74,11 +76,13 @@ impl Run {
         Ok(printed)
     }
 
-    /// The same, demand 3, the answers beside those of document 01's clock, and how long requests took.
+    /// The same, demand 3, the answers beside those of document 01's clock, questions beside what report calls give,
+    /// and how long requests took.
     fn calls_and_independence(&self, records: &[Vec<u8>], waits: &Mutex<Waiting>) -> Result<(), Difference> {
         let printed = self.calls(records)?;
         self.tally.count_answers(check_independence(&self.programs, records, &printed)?);
         check_agreement(&self.programs, &self.tally, records, &printed)?;
+        check_absent(&self.programs, &self.tally, records, &printed)?;
         check_waiting(&self.programs, waits, records, &printed)
     }
 
@@ -89,6 +93,7 @@ impl Run {
             Input::Frame(octets) => compare_frame(&self.programs, &self.tally, octets),
             Input::Report(octets) => compare_report(&self.programs, &self.tally, octets),
             Input::Trace(records) => self.calls_and_independence(records, &self.tally.fixed_waits),
+            Input::Explain(fields, records) => compare_explain(&self.programs, &self.tally, fields, records),
         })
     }
 
@@ -120,9 +125,30 @@ impl Run {
     pub fn traces(&self, number: usize) -> Result<(), Difference> {
         each(number, |index| {
             let records = trace(&mut Random::new(self.seed, 3, index as u64));
-            self.calls_and_independence(&records, &self.tally.made_up_waits)
+            self.calls_and_independence(&records, &self.tally.made_up_waits)?;
+            let by_itself = if index % BY_ITSELF == 0 { explain_inputs(&records) } else { Vec::new() };
+            let run = |input: &(Vec<u8>, Vec<Vec<u8>>)| {
+                compare_explain(&self.programs, &self.tally, &input.0, &input.1)
+            };
+            by_itself.iter().try_for_each(run)
         })
     }
+}
+
+/// Input for `explain`: every question of a trace, with the records before it and with all records, each question at
+/// times cut.
+pub fn explain_inputs(records: &[Vec<u8>]) -> Vec<(Vec<u8>, Vec<Vec<u8>>)> {
+    let is_question = |record: &[u8]| matches!(read_record(record), Some((Record::Explain(_), _)));
+    let asked = records.iter().enumerate().filter(|(_, record)| is_question(record));
+    asked
+        .flat_map(|(index, record)| {
+            let (fields, before) = (&record[1..], &records[..index]);
+            let all = index % 3 == 0;
+            let whole = (fields.to_vec(), if all { records } else { before }.to_vec());
+            let cut = (fields[..index % fields.len()].to_vec(), Vec::new());
+            [Some(whole), (index % 5 == 0).then_some(cut)].into_iter().flatten()
+        })
+        .collect()
 }
 
 /// The papers' cases and the limits of traces and frames.

@@ -8,7 +8,7 @@ use differential::explain_cases::explain_cases;
 use differential::kind_cases::kind_cases;
 use differential::listing::{list_report_input, list_request};
 use differential::order_cases::order_cases;
-use differential::trace::replay;
+use differential::trace::{explain_input, replay};
 use differential::waiting_cases::waiting_cases;
 
 #[test]
@@ -25,6 +25,7 @@ fn every_case_prints_what_the_papers_say() {
             Input::Frame(octets) => list_request(octets),
             Input::Report(octets) => list_report_input(octets),
             Input::Trace(records) => replay(&records.concat()),
+            Input::Explain(fields, records) => explain_input(&[&fields[..], &records.concat()].concat()),
         };
         assert_eq!(printed, case.printed, "{}", case.title);
     }
