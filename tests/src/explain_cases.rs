@@ -7,7 +7,7 @@ use crate::explain::Question;
 use crate::kind_cases::{octets_of, EXPANDED};
 use crate::octets::Kind;
 use crate::script::{elements, numbered, transition, Script, LEAST};
-use crate::trace::{question_octets, write_record, Record};
+use crate::trace::{question_octets, read_record, write_record, Record};
 
 const AFTER: &str = "logged after acceptance";
 const WRONG_TYPE: &str = "wrong type";
@@ -377,8 +377,64 @@ pub fn explain_cases() -> Vec<Case> {
     cases.extend((0..3).map(conditions_of_a_kind));
     cases.extend((0..3).map(refusals_of_a_kind));
     cases.extend([other_elements(), limits_and_conditions(), frequent()]);
-    cases.extend([no_call(), bad_records(), program_cases()].concat());
+    cases.extend([no_call(), bad_records(), program_cases(), technicians_story()].concat());
     cases
+}
+
+/// The example of docs/REPORTS.md, with the octets that stand there: the line that it prints, those of the other
+/// places, and the report.
+fn technicians_story() -> Vec<Case> {
+    let page = include_str!("../../docs/REPORTS.md");
+    let from = page.find("## Why an event").expect("the page has that part");
+    let blocks: Vec<&str> = page[from..].split("```").skip(1).step_by(2).collect();
+    let [report, gate, question, _, line] = blocks[..] else { panic!("the page has five blocks there") };
+    let fields = hex_block(question);
+    let at = |place: u8| [&fields[..fields.len() - 2], &[place, 0]].concat();
+    let case = |fields: Vec<u8>, line: &str| {
+        let input = Input::Explain(fields, vec![hex_block(gate)]);
+        Case { title: "explain: the technician's page", input, printed: format!("{line}\n") }
+    };
+    let lines = [LIMIT, "condition 2", REPORTED, REPORTED, AFTER, "refused 18 at 0"];
+    let mut cases: Vec<Case> = (0..).zip(lines).map(|(place, line)| case(at(place), line)).collect();
+    cases.push(case(fields.clone(), line.trim()));
+    // The transition times 125 and 244 are 7d 00 and f4 00; times and fields as they were logged.
+    let event = |time: &str, taken: &str| {
+        format!("4f21050000{time}0e0e0bea07020101010101020101010102{taken}000600006e28963c")
+    };
+    let given = format!("0a0107{}{}", event("fa002d04", "7d"), event("00000003", "f4"));
+    let printed =
+        format!("{}length 73\nbuffer {given}{}\naccepted\n", "accepted\n".repeat(6), "ee".repeat(187));
+    cases.push(Case {
+        title: "the gate of the technician's page",
+        input: Input::Trace(records_of(&hex_block(gate))),
+        printed,
+    });
+    cases.push(Case {
+        title: "the report on the technician's page",
+        input: Input::Report([&CONSOLE_OF_THE_PAGE[..], &octets_of(&given)].concat()),
+        printed: report.trim_start().to_string(),
+    });
+    cases
+}
+
+/// The console of that example.
+const CONSOLE_OF_THE_PAGE: [u8; 6] = [2, 0, 0, 0, 0, 0x10];
+
+/// Octets as pages have them: hexadecimal, with spaces, and comments behind `#`.
+fn hex_block(block: &str) -> Vec<u8> {
+    let code = block.lines().map(|line| line.split('#').next().unwrap_or(""));
+    octets_of(&code.flat_map(str::split_whitespace).collect::<String>())
+}
+
+/// A trace, record by record.
+fn records_of(mut octets: &[u8]) -> Vec<Vec<u8>> {
+    let mut records = Vec::new();
+    while let Some((_, length)) = read_record(octets) {
+        records.push(octets[..length].to_vec());
+        octets = &octets[length..];
+    }
+    assert!(octets.is_empty(), "every record is whole");
+    records
 }
 
 /// The program `explain`: a question's fields, and then a trace.
