@@ -119,7 +119,7 @@ fn faulty_element(random: &mut Random, element: &[u8]) -> Vec<u8> {
             4 => [element, element].concat(),
             5 => {
                 let length = random.between(0, 2);
-                part(random.pick(&[78, 78, 79]), &octets.get(2..2 + length).unwrap_or(&[]).to_vec())
+                part(random.pick(&[78, 78, 79]), octets.get(2..2 + length).unwrap_or(&[]))
             }
             6 => with_octet(octets, 2, 0),
             7 | 8 => extended(random, &octets),
