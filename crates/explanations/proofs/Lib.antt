@@ -1,0 +1,3 @@
+pub mod CountLaws
+pub mod SeekLaws
+pub mod ReasonLaws
