@@ -10,7 +10,7 @@ use std::time::Duration;
 /// A run that takes longer than this is ended and counts as a difference.
 const LONGEST_RUN: Duration = Duration::from_secs(60);
 
-/// The folder with the programs `frame`, `report` and `replay`.
+/// The folder with the programs `frame`, `report` and `replay`, and perhaps `explain`.
 pub struct Programs {
     folder: PathBuf,
 }
@@ -25,6 +25,11 @@ impl Programs {
             }
         }
         Ok(Programs { folder: folder.to_path_buf() })
+    }
+
+    /// Whether this program is there.
+    pub fn has(&self, name: &str) -> bool {
+        self.folder.join(name).is_file()
     }
 
     /// What the program prints for this input. A line is added where it ends by a signal or not at all.

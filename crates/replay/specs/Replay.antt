@@ -6,13 +6,16 @@ use lib.Dec.{eqb}
 use lib.ListN.{length, getD, take, drop, replicate}
 use Rattle.laws.specs.Choice.{if_then_else_}
 use Rattle.laws.specs.Walk.{repeatWhile}
+use Rattle.units.specs.Time.{elapsedSince}
 use Rattle.events.specs.Loggings.{transition, rsna, peerLink}
+use Rattle.explanations.specs.declared.Explanation.{Explanation}
+use Rattle.explanations.specs.Explanations.{explanation}
 use Rattle.model.specs.Clocks.{elapsedClock}
 use Rattle.model.specs.Model.{standard, Address, Station, Result, Call, clock, logging, frame, report, roam, change}
 use Rattle.model.specs.Stations.{setup, step}
 use Rattle.traces.specs.declared.calls.Span.{Span}
 use Rattle.traces.specs.Places.{longestLength}
-use Rattle.traces.specs.Records.{recordEnd, wholeRecord, fieldsOf, millisecondsAt, addressesAt, setupFields, transitionFields, frameFields, reportFields, moveFields, rsnaFields, peerLinkFields}
+use Rattle.traces.specs.Records.{recordEnd, wholeRecord, fieldsOf, millisecondsAt, addressesAt, setupFields, transitionFields, frameFields, reportFields, moveFields, rsnaFields, peerLinkFields, explainFields}
 
 -- ---- the call of a record
 
@@ -52,9 +55,13 @@ logRsnaAt s at = let c = rsnaFields s (fieldsOf s at) in logging (millisecondsAt
 abbrev pub logPeerLinkAt : List ℕ → ℕ → Call
 logPeerLinkAt s at = logging (millisecondsAt s (fieldsOf s at) .0) (peerLink (peerLinkFields s (fieldsOf s at)))
 
+-- "`12` explains: element's length (2), element, count (2), position (2); the log is the present gate's as it stands"
+abbrev pub explainedAt : List ℕ → ℕ → Station → Explanation
+explainedAt s at g = let c = explainFields s (fieldsOf s at) in explanation elapsedSince (g .log) (spanned s (c .element)) (c .count) (c .position)
+
 -- ---- a trace
 
--- the station after a record, by its number; the console's records touch no station
+-- the station after a record, by its number; the console's records and an explanation touch no station
 unfoldable pub stationAfter : List ℕ → ℕ → Station → Station
 stationAfter s at g =
     if eqb (getD s at 0) 0 then setupAt s at .station

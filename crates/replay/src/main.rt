@@ -1,6 +1,7 @@
 // Replays a recorded list of calls from standard input, and prints each answer. The format of the
 // records and the text of each line are those of traces; which calls they are, and the station after
 // them, are the contracts here.
+use explanations::Explanation;
 use libc::STDIN_FILENO;
 use libc::STDOUT_FILENO;
 use octets::least;
@@ -20,11 +21,13 @@ use traces::Span;
 use traces::WriterCall;
 use traces::addresses_at;
 use traces::elements_at;
+use traces::explain_call_at;
 use traces::frame_call_at;
 use traces::move_at;
 use traces::peer_link_at;
 use traces::put_answer;
 use traces::put_buffer;
+use traces::put_explanation;
 use traces::put_trace_refusal;
 use traces::reader_call_at;
 use traces::reading_at;
@@ -39,7 +42,7 @@ ghost use Rattle.model.specs.Clocks.{elapsedClock};
 ghost use Rattle.model.specs.Model.{standard, report as Model·report};
 ghost use Rattle.model.specs.Stations.{step};
 ghost use Rattle.station.specs.Views.{view};
-ghost use Rattle.replay.specs.Replay.{spanned, setupAt, clockAt, logTransitionAt, frameAt, reportAt, roamAt, changeAt, logRsnaAt, logPeerLinkAt, stationAfter, replayed, replayTrace};
+ghost use Rattle.replay.specs.Replay.{spanned, setupAt, clockAt, logTransitionAt, frameAt, reportAt, roamAt, changeAt, logRsnaAt, logPeerLinkAt, explainedAt, stationAfter, replayed, replayTrace};
 
 // A trace has at most so many octets.
 const LONGEST: usize = 262144;
@@ -55,6 +58,12 @@ fn print_buffer(buf: &[u8; BUFFER], n: usize) {
     let mut line = [0u8; BUFFER_LINE];
     let length = put_buffer(&mut line, buf, n);
     io::write_all(STDOUT_FILENO, &line[..length]);
+}
+
+fn print_explanation(e: Explanation) {
+    let mut line = [0u8; LINE];
+    let n = put_explanation(&mut line, e);
+    io::write_all(STDOUT_FILENO, &line[..n]);
 }
 
 fn print_trace_refusal(place: usize) {
@@ -208,6 +217,15 @@ fn read(s: &[u8], at: usize) {
     print_report(destination, part(s, frame));
 }
 
+// The explanation that the record at a position asks for, of the station's log as it stands.
+fn explain(g: Station, s: &[u8], at: usize) -> Explanation
+    ensures { λ r. ⌜ r ≡ explainedAt (now (s .entry)) at (view g) ⌝ }
+{
+    let c = explain_call_at(s, at);
+    let element = c.element;
+    g.explain(part(s, element), c.count as usize, c.position as usize)
+}
+
 // The call of the record at a position; the station after it.
 fn call(g: Station, s: &[u8], at: usize) -> Station
     ensures { λ r. ⌜ view r ≡ stationAfter (now (s .entry)) at (view g) ⌝ }
@@ -226,8 +244,12 @@ fn call(g: Station, s: &[u8], at: usize) -> Station
             write(s, at);
             g
         }
-        _ => {
+        17 => {
             read(s, at);
+            g
+        }
+        _ => {
+            print_explanation(explain(g, s, at));
             g
         }
     }

@@ -43,6 +43,12 @@ write-requires c κs = search needs
 read-requires : tie.Need-read-requires
 read-requires c κs = search needs
 
+explain-requires : tie.Need-explain-requires
+explain-requires c κs = search needs
+
+print-explanation-requires : tie.Need-print-explanation-requires
+print-explanation-requires c κs = search needs
+
 returns : tie.Need-returns
 unfolding stationAfter if_then_else_
 returns c = rw (← c .before .before .octet .ensures, c .before .match .keys1) (c .set-up .ensures)
@@ -85,9 +91,13 @@ returns-10 c = rw (← c .before .before .octet .ensures, c .before .match .keys
 
 returns-11 : tie.Need-returns-11
 unfolding stationAfter if_then_else_
-returns-11 c =
-    let r = c .before .match .rest in
-    rw (← c .before .before .octet .ensures, ne-eqb _ 0 (r .0 .0 .0 .0 .0 .0 .0 .0 .0 .1), ne-eqb _ 1 (r .0 .0 .0 .0 .0 .0 .0 .0 .1), ne-eqb _ 2 (r .0 .0 .0 .0 .0 .0 .0 .1), ne-eqb _ 3 (r .0 .0 .0 .0 .0 .0 .1), ne-eqb _ 4 (r .0 .0 .0 .0 .0 .1), ne-eqb _ 5 (r .0 .0 .0 .0 .1), ne-eqb _ 6 (r .0 .0 .0 .1), ne-eqb _ 7 (r .0 .0 .1), ne-eqb _ 8 (r .0 .1))
+returns-11 c = rw (← c .before .before .octet .ensures, c .before .match .keys11)
+
+returns-12 : tie.Need-returns-12
+unfolding stationAfter if_then_else_
+returns-12 c =
+    let r = c .before .before .match .rest in
+    rw (← c .before .before .before .octet .ensures, ne-eqb _ 0 (r .0 .0 .0 .0 .0 .0 .0 .0 .0 .0 .1), ne-eqb _ 1 (r .0 .0 .0 .0 .0 .0 .0 .0 .0 .1), ne-eqb _ 2 (r .0 .0 .0 .0 .0 .0 .0 .0 .1), ne-eqb _ 3 (r .0 .0 .0 .0 .0 .0 .0 .1), ne-eqb _ 4 (r .0 .0 .0 .0 .0 .0 .1), ne-eqb _ 5 (r .0 .0 .0 .0 .0 .1), ne-eqb _ 6 (r .0 .0 .0 .0 .1), ne-eqb _ 7 (r .0 .0 .0 .1), ne-eqb _ 8 (r .0 .0 .1))
 
 pub call-spec : {M : Type 1} → statement M
 call-spec =
@@ -105,6 +115,8 @@ call-spec =
     log-peer-link-requires
     write-requires
     read-requires
+    explain-requires
+    print-explanation-requires
     returns
     returns-2
     returns-3
@@ -115,4 +127,5 @@ call-spec =
     returns-8
     returns-9
     returns-10
-    returns-11)
+    returns-11
+    returns-12)
