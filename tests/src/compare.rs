@@ -58,7 +58,7 @@ pub fn compare_report(programs: &Programs, tally: &Tally, input: &[u8]) -> Resul
     compare_octets(programs, tally, "report", input, list_report_input)
 }
 
-/// The program `explain`, if it is there, on a question's fields and a trace; on a difference the trace is shortened
+/// The program `explain` on a question's fields and a trace; on a difference the trace is shortened
 /// record by record.
 pub fn compare_explain(
     programs: &Programs,
@@ -66,9 +66,6 @@ pub fn compare_explain(
     fields: &[u8],
     records: &[Vec<u8>],
 ) -> Result<(), Difference> {
-    if !programs.has("explain") {
-        return Ok(());
-    }
     let input = |records: &[Vec<u8>]| [fields, &records.concat()].concat();
     let run = |records: &[Vec<u8>]| programs.run("explain", &input(records));
     let expected = |records: &[Vec<u8>]| explain_input(&input(records)).into_bytes();

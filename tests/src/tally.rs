@@ -138,13 +138,10 @@ impl Tally {
             ("places explained beside what report calls give", &self.explained),
             ("reported among these", &self.reported),
             ("elements that a gate and explain refuse alike", &self.elements_refused),
+            ("runs of the program explain", &self.explain_runs),
         ];
         for (name, count) in &named {
             println!("{name}: {}", count.number());
-        }
-        match self.explain_runs.number() {
-            0 => println!("there is no program explain: it was not run"),
-            runs => println!("runs of the program explain: {runs}"),
         }
         for (number, count) in self.refusals.iter().enumerate().skip(1) {
             println!("refusal {number:2}: {}", count.number());
