@@ -57,8 +57,9 @@ enum {
     DULTXIBE_CAUSE_BAD_TIME = 14,           /* out of range, not unknown; place when reading: element */
     DULTXIBE_CAUSE_BAD_REQUESTER_LIST = 15, /* empty, over four, repeated, or with a group address */
     DULTXIBE_CAUSE_BAD_IDENTITY = 16,       /* no good identity */
-    DULTXIBE_CAUSE_BAD_REPORT_BODY = 17     /* bad status, or length for it; place: element. Logging:
+    DULTXIBE_CAUSE_BAD_REPORT_BODY = 17,    /* bad status, or length for it; place: element. Logging:
                                                an RSN element not of 0 or 22 octets */
+    DULTXIBE_CAUSE_NO_LOGGED_EVENT = 18     /* explaining: no event stands at the position */
 };
 
 /* code is one of the four answers. length is 0 but for DULTXIBE_LENGTH; cause and place are 0 but for
@@ -181,6 +182,35 @@ struct dultxibe_outcome dultxibe_roam(struct dultxibe_station station, uint32_t 
 /* A network change: the same, and empties the log. */
 struct dultxibe_outcome dultxibe_change_network(struct dultxibe_station station, uint32_t reading,
                                                 const uint8_t (*requesters)[6], size_t count);
+
+/* Why an event of the log is absent from the reports of a request element: the first reason that
+ * applies, in this order. */
+enum {
+    DULTXIBE_UNEXPLAINED = 0,   /* refused */
+    DULTXIBE_LOGGED_AFTER = 1,  /* logged after the request was accepted */
+    DULTXIBE_WRONG_TYPE = 2,    /* the element asks for another event type */
+    DULTXIBE_UNMET = 3,         /* it does not meet a condition */
+    DULTXIBE_LIMIT_REACHED = 4, /* newer events that match are as many as the limit */
+    DULTXIBE_REPORTED = 5       /* it is not absent */
+};
+
+/* condition, the subelement's ID, is 0 but for DULTXIBE_UNMET; cause and place are 0 but for
+ * DULTXIBE_UNEXPLAINED. */
+struct dultxibe_explanation {
+    uint8_t reason;
+    uint8_t condition;
+    uint8_t cause;
+    size_t place;
+};
+
+/* Says why the event at a position of the log (the oldest is 0) is absent from the reports of an event
+ * request element, given whole, with its ID; count places of the log, from the oldest, were logged
+ * before the request was accepted (over the log's length: all). Conditions are tried in the order in
+ * which they stand in the element. Refused by 4 to 8 (the element; also 4 where its ID is another or
+ * octets stand behind it), then NO_LOGGED_EVENT; a place is one of the element. It is no call: it has no
+ * reading, and no station comes back. */
+struct dultxibe_explanation dultxibe_explain(struct dultxibe_station station, const uint8_t *element,
+                                             size_t length, size_t count, size_t position);
 
 /* ---- the requester's side */
 
@@ -328,6 +358,11 @@ DULTXIBE_SIZE(dultxibe_reply, 24);
 DULTXIBE_AT(dultxibe_reply, cause, 1);
 DULTXIBE_AT(dultxibe_reply, place, 8);
 DULTXIBE_AT(dultxibe_reply, length, 16);
+
+DULTXIBE_SIZE(dultxibe_explanation, 16);
+DULTXIBE_AT(dultxibe_explanation, condition, 1);
+DULTXIBE_AT(dultxibe_explanation, cause, 2);
+DULTXIBE_AT(dultxibe_explanation, place, 8);
 
 DULTXIBE_SIZE(dultxibe_transition, 32);
 DULTXIBE_AT(dultxibe_transition, source, 9);

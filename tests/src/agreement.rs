@@ -60,6 +60,8 @@ impl Beside {
         let both = answers(records, &old).into_iter().zip(answers(records, &printed));
         for (((record, old), (_, new)), age) in both.zip(ages) {
             match record {
+                // No call: the ages that it takes are not counted.
+                Record::Explain(_) => {}
                 _ if age < TURN && old == new => beside.agreed += 1,
                 _ if age < TURN => {
                     beside.first_difference.get_or_insert((old.to_string(), new.to_string()));

@@ -14,6 +14,8 @@ pub enum Input {
     Frame(Vec<u8>),
     Report(Vec<u8>),
     Trace(Vec<Vec<u8>>),
+    /// A question's fields and a trace's records, for `explain`.
+    Explain(Vec<u8>, Vec<Vec<u8>>),
 }
 
 /// A case of the paper.

@@ -5,7 +5,7 @@ use crate::listing::{list_report_input, list_request};
 use crate::program::Programs;
 use crate::shrink::{shrink_list, shrink_trace};
 use crate::tally::Tally;
-use crate::trace::{hexadecimal, replay, run_trace};
+use crate::trace::{explain_input, hexadecimal, replay, run_trace};
 use std::fmt;
 
 /// Two outputs that ought to be one, and the input that they came from.
@@ -56,6 +56,35 @@ pub fn compare_frame(programs: &Programs, tally: &Tally, input: &[u8]) -> Result
 /// The program `report` on a destination and one report frame.
 pub fn compare_report(programs: &Programs, tally: &Tally, input: &[u8]) -> Result<(), Difference> {
     compare_octets(programs, tally, "report", input, list_report_input)
+}
+
+/// The program `explain` on a question's fields and a trace; on a difference the trace is shortened
+/// record by record.
+pub fn compare_explain(
+    programs: &Programs,
+    tally: &Tally,
+    fields: &[u8],
+    records: &[Vec<u8>],
+) -> Result<(), Difference> {
+    let input = |records: &[Vec<u8>]| [fields, &records.concat()].concat();
+    let run = |records: &[Vec<u8>]| programs.run("explain", &input(records));
+    let expected = |records: &[Vec<u8>]| explain_input(&input(records)).into_bytes();
+    let printed = run(records);
+    tally.count_explain(&printed);
+    if printed == expected(records) {
+        return Ok(());
+    }
+    let shortest = shrink_trace(records, &mut |fewer| run(fewer) != expected(fewer));
+    Err(Difference {
+        title: format!(
+            "program explain; its own fields and the records:\n{}\n{}",
+            hexadecimal(fields),
+            records_text(&shortest)
+        ),
+        expected: expected(&shortest),
+        printed: run(&shortest),
+        input: input(&shortest),
+    })
 }
 
 /// A trace's records, a line each.

@@ -60,6 +60,17 @@ impl Condition {
         })
     }
 
+    /// The ID of the subelement that asks for it.
+    pub fn id(&self) -> u8 {
+        match self {
+            Condition::Target(_) | Condition::RsnaTarget(_) | Condition::Peer(_) => 0,
+            Condition::Source(_) | Condition::Authentication(_) | Condition::Channel { .. } => 1,
+            Condition::Threshold(_) | Condition::Eap(_) => 2,
+            Condition::TransitionResult(_) | Condition::RsnaResult(_) => 3,
+            Condition::Frequent { .. } => 4,
+        }
+    }
+
     /// Whether an event meets it. `up_to` are the log's "events up to and including this one". A condition of
     /// another type than the event's is never asked; its answer is no.
     pub fn admits(&self, event: &Event, up_to: &[Event]) -> bool {

@@ -1,10 +1,11 @@
-//! What a trace had of requests (a), (c) and (d) of document 02, counted beside the second gate's run of it: a
+//! What a trace had of requests (a), (c), (d) and (f) of document 02, counted beside the second gate's run of it: a
 //! case that no trace had could not have failed.
 
 use crate::clock::{age, TURN};
 use crate::condition::{is_near, transitions, Condition};
 use crate::event_body::{is_reported, EventBody};
 use crate::event_request::Event;
+use crate::explained::{self, shown, Shown};
 use crate::octets::{part_at, Kind, HEADER};
 use crate::order::Due;
 use crate::report::{read_report, ReportElement, ReportFrame, Rest};
@@ -114,7 +115,7 @@ const CALLS: [&str; 11] = [
 ];
 
 /// Logs, frames and traces as a whole.
-const WHOLES: [&str; 8] = [
+const WHOLES: [&str; 9] = [
     "full log of three kinds at a report call",
     "frame with events of three kinds",
     "frame of 2,304 octets",
@@ -123,6 +124,7 @@ const WHOLES: [&str; 8] = [
     "trace refused at 08",
     "trace refused at 10 with conditions of type 1",
     "trace refused at 10 with conditions of type 2",
+    "trace refused at 12",
 ];
 
 /// What a count is about, and what was seen of it.
@@ -135,6 +137,9 @@ fn cases() -> Vec<Case> {
     };
     let mut all = of(&KINDS, &OF_EVERY_KIND);
     all.extend(of(&CONDITIONS, &OF_EVERY_CONDITION));
+    all.extend(of(&KINDS, &explained::OF_EVERY_KIND));
+    all.extend(of(&CONDITIONS, &explained::OF_EVERY_CONDITION));
+    all.extend(of(&["explain"], &explained::OTHERS));
     all.extend(OTHERS.iter().flat_map(|(name, seen)| of(&[*name], seen)));
     all
 }
@@ -306,11 +311,22 @@ impl Covered {
         }
     }
 
+    /// What a question shows of this log.
+    pub fn explained(&mut self, log: &[Event], record: &Record) {
+        let Record::Explain(question) = record else { return };
+        shown(log, question, &mut |case| match case {
+            Shown::Of(ty, what) => self.saw_kind(ty, what),
+            Shown::Named(condition, body, what) => self.saw(condition_name(condition, body), what),
+            Shown::Other(what) => self.saw("explain", what),
+        });
+    }
+
     /// A record that was refused.
     pub fn refused_record(&mut self, octets: &[u8]) {
         match *octets {
             [7, ..] => self.saw_whole("trace refused at 07"),
             [8, ..] => self.saw_whole("trace refused at 08"),
+            [0x12, ..] => self.saw_whole("trace refused at 12"),
             // Length and filling octet, action 0, dialog token, one element: token, type, bound, conditions.
             [0x10, _, _, _, 0, _, 1, _, 1, _, 0, 1..=255, ..] => {
                 self.saw_whole("trace refused at 10 with conditions of type 1");

@@ -121,7 +121,7 @@ fn stretches<'a>(records: &[Vec<u8>], printed: &'a str) -> Vec<Stretch<'a>> {
                 let identity = current.identity.clone();
                 stretches.push(stretch(identity, list, true));
             }
-            Record::Write { .. } | Record::Read { .. } => {}
+            Record::Write { .. } | Record::Read { .. } | Record::Explain(_) => {}
             call => current.calls.push((call, answer)),
         }
     }

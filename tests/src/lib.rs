@@ -1,4 +1,4 @@
-//! A separately written reader and gate for document 01 and requests (a), (c) and (d) of document 02, and the
+//! A separately written reader and gate for document 01 and requests (a), (c), (d) and (f) of document 02, and the
 //! differential tests made with it.
 
 // The reader and the gate.
@@ -6,6 +6,7 @@ pub mod clock;
 pub mod condition;
 pub mod event_body;
 pub mod event_request;
+pub mod explain;
 pub mod listing;
 pub mod octets;
 pub mod peer_link;
@@ -22,9 +23,11 @@ pub mod transition;
 pub mod cases;
 pub mod clock_cases;
 pub mod damage;
+pub mod explain_cases;
 pub mod kind_cases;
 pub mod make_events;
 pub mod make_identity;
+pub mod make_questions;
 pub mod make_reports;
 pub mod make_requests;
 pub mod make_traces;
@@ -34,11 +37,13 @@ pub mod script;
 pub mod waiting_cases;
 
 // The runner.
+pub mod absent;
 pub mod agreement;
 pub mod answers;
 pub mod compare;
 pub mod covered;
 pub mod exchange;
+pub mod explained;
 pub mod independence;
 pub mod order;
 pub mod phases;

@@ -1,5 +1,5 @@
-//! `differential`: the programs `frame`, `report` and `replay` against the separately written reader and
-//! gate, on made-up input.
+//! `differential`: the programs `frame`, `report`, `replay` and `explain` against the separately written reader
+//! and gate, on made-up input.
 
 use differential::compare::Difference;
 use differential::phases::Run;

@@ -36,7 +36,7 @@ pub fn request_frame(random: &mut Random, kind: Kind, dialog: u8, taste: Taste) 
 
 /// An element with one or two faults, so that the order of the causes shows: too short, a token that
 /// stands already (`token`) or 0, a subelement past the end, of wrong length, or repeated.
-fn wrong_element(random: &mut Random, kind: Kind, token: u8) -> Vec<u8> {
+pub fn wrong_element(random: &mut Random, kind: Kind, token: u8) -> Vec<u8> {
     let own_token = random.pick(&[token, 0, 250, 251, 252, 253, 254, 255, 255, 255]);
     let ty = random.pick(&[0, 0, 1, 1, 1, 2, 2, 3, 255]);
     let mut body = vec![own_token, ty];
@@ -163,7 +163,7 @@ fn event_element(random: &mut Random, token: u8) -> Vec<u8> {
 }
 
 /// The body of the condition with this type and ID, as it goes on the air.
-fn condition_body(random: &mut Random, ty: u8, id: u8) -> Vec<u8> {
+pub fn condition_body(random: &mut Random, ty: u8, id: u8) -> Vec<u8> {
     match (ty, id) {
         (_, 0) => random.pick(&BSSIDS).to_vec(),
         (1, 1) => suite(random).to_vec(),

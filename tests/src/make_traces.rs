@@ -1,9 +1,10 @@
 //! Made-up traces.
 
-use crate::clock::TURN;
+use crate::clock::{Rule, TURN};
 use crate::damage::part;
 use crate::make_events::{log_record, rsna_logging, transition};
 use crate::make_identity::{console_list, identity, STATION};
+use crate::make_questions::question;
 use crate::make_reports::report_frame;
 use crate::make_requests::{crowded_request, handed_condition, request_frame, Taste};
 use crate::octets::{Address, Kind};
@@ -11,7 +12,7 @@ use crate::random::Random;
 use crate::request::Wanted;
 use crate::rsna::RsnaLogging;
 use crate::setup::{identity_is_good, list_is_good};
-use crate::station::Logging;
+use crate::station::{Logging, Station};
 use crate::trace::{handed_lengths, write_record, Record, LONGEST_TRACE};
 
 /// Lengths of lent buffers at which something changes: the least buffer, one to several transitions of 35
@@ -23,8 +24,8 @@ const BUFFERS: [usize; 32] = [
 
 /// How often each call comes: clock, logging, event frame, diagnostic frame, report call, move, network
 /// change, setup, request writer, report reader, the calls around a timeout, two transitions and a diagnostic
-/// over a turn, a request that takes many report calls.
-type Weights = [usize; 14];
+/// over a turn, a request that takes many report calls, a question to `explain`.
+type Weights = [usize; 15];
 
 /// What a trace is like as a whole.
 struct Plan {
@@ -46,7 +47,7 @@ fn plan(random: &mut Random) -> Plan {
     let taste = Taste { faulty: 12, cancels: 8 };
     let small_steps = [30, 40, 15, 4, 1, 2, 4];
     let everyday = Plan {
-        weights: [4, 22, 16, 10, 32, 2, 1, 1, 3, 4, 2, 1, 1, 0],
+        weights: [4, 22, 16, 10, 32, 2, 1, 1, 3, 4, 2, 1, 1, 0, 12],
         taste,
         loggings_first: random.between(0, 20),
         kinds: random.pick(&[[1, 1, 1], [1, 1, 1], [6, 1, 1], [1, 6, 1], [1, 1, 6], [1, 0, 0]]),
@@ -58,20 +59,20 @@ fn plan(random: &mut Random) -> Plan {
     match random.between(0, 6) {
         0 => Plan { loggings_first: random.between(60, 140), ..everyday },
         5 => Plan {
-            weights: [1, 5, 30, 2, 50, 1, 0, 0, 0, 0, 0, 1, 0, 1],
+            weights: [1, 5, 30, 2, 50, 1, 0, 0, 0, 0, 0, 1, 0, 1, 12],
             loggings_first: random.between(64, 70),
             short_buffers: false,
             crowded: 50,
             ..everyday
         },
         1 => Plan {
-            weights: [10, 2, 2, 30, 30, 1, 1, 1, 0, 0, 10, 0, 6, 1],
+            weights: [10, 2, 2, 30, 30, 1, 1, 1, 0, 0, 10, 0, 6, 1, 2],
             taste: Taste { faulty: 4, ..taste },
             steps: [30, 10, 45, 2, 1, 6, 2],
             ..everyday
         },
         2 => Plan {
-            weights: [0, 60, 8, 2, 25, 1, 0, 0, 0, 0, 0, 2, 0, 0],
+            weights: [0, 60, 8, 2, 25, 1, 0, 0, 0, 0, 0, 2, 0, 0, 10],
             taste: Taste { faulty: 0, ..taste },
             loggings_first: 64,
             short_buffers: true,
@@ -79,7 +80,7 @@ fn plan(random: &mut Random) -> Plan {
         },
         3 => Plan { taste: Taste { faulty: 60, ..taste }, steps: [10, 10, 10, 10, 10, 10, 10], ..everyday },
         4 => Plan {
-            weights: [2, 30, 14, 6, 30, 8, 4, 3, 1, 1, 2, 6, 3, 0],
+            weights: [2, 30, 14, 6, 30, 8, 4, 3, 1, 1, 2, 6, 3, 0, 10],
             steps: [20, 30, 10, 20, 10, 5, 5],
             ..everyday
         },
@@ -95,6 +96,8 @@ struct Maker<'a> {
     listed: Vec<Address>,
     records: Vec<Vec<u8>>,
     size: usize,
+    /// A gate that takes the calls but requests: it has the log.
+    gate: Station,
 }
 
 /// A trace of 50 to 400 calls, as its records; the last one is at times not a whole record.
@@ -106,7 +109,9 @@ pub fn trace(random: &mut Random) -> Vec<Vec<u8>> {
         _ => random.bits() as u32,
     };
     let calls = random.between(50, 400);
-    let mut maker = Maker { random, plan, reading, listed: Vec::new(), records: Vec::new(), size: 0 };
+    let gate = Station::without_requesters(Rule::Elapsed);
+    let (listed, records) = (Vec::new(), Vec::new());
+    let mut maker = Maker { random, plan, reading, listed, records, size: 0, gate };
     if maker.random.percent(95) {
         maker.setup();
     }
@@ -125,7 +130,20 @@ pub fn trace(random: &mut Random) -> Vec<Vec<u8>> {
 impl Maker<'_> {
     /// Appends a record.
     fn push(&mut self, record: Record) {
+        self.follow(&record);
         self.push_octets(write_record(&record));
+    }
+
+    /// What a record does to the log, refused or not.
+    fn follow(&mut self, record: &Record) {
+        match record {
+            Record::Setup { identity, list } => self.gate = Station::setup(Rule::Elapsed, identity, list).1,
+            Record::Log { reading, logging } => drop(self.gate.log_transition(*reading, logging)),
+            Record::LogRsna { reading, logging } => drop(self.gate.log_rsna(*reading, logging)),
+            Record::LogPeerLink { reading, logging } => drop(self.gate.log_peer_link(*reading, logging)),
+            Record::Change { reading, list } => drop(self.gate.change_network(*reading, list)),
+            other => drop(other.reading().map(|reading| self.gate.clock(reading))),
+        }
     }
 
     /// Appends octets as they are.
@@ -189,6 +207,7 @@ impl Maker<'_> {
             }
             10 => self.around_a_timeout(),
             13 => self.long_wait(),
+            14 => self.questions(),
             _ if !self.plan.far => self.report(),
             11 => self.transitions_over_a_turn(),
             _ => self.diagnostic_over_a_turn(),
@@ -260,6 +279,15 @@ impl Maker<'_> {
         };
         let fill = random.pick(&[0, 0xEE, 0xFF]);
         self.push(Record::Report { reading, console, kind, buffer, fill });
+    }
+
+    /// One question or several about the log as it stands.
+    fn questions(&mut self) {
+        for _ in 0..self.random.pick(&[1, 1, 2, 4]) {
+            let faulty = 15 + self.plan.taste.faulty / 2;
+            let question = question(self.random, self.gate.log(), faulty);
+            self.push(Record::Explain(question));
+        }
     }
 
     /// A diagnostic request, a call of any kind at its timeout or one later, at times a step back by one,
@@ -447,8 +475,9 @@ impl Maker<'_> {
         let write = |action: u8, bound: u16, conditions: &[u8]| write_type(action, 0, bound, conditions);
         let ty = random.pick(&[1, 2]);
         let logging = write_record(&log_record(random, ty, self.reading, 0, 5));
-        let octets = match random.between(0, 20) {
-            0 => vec![random.pick(&[9, 15, 16 + 2, 32, 255])],
+        let question = write_record(&Record::Explain(question(random, self.gate.log(), 15)));
+        let octets = match random.between(0, 22) {
+            0 => vec![random.pick(&[9, 15, 16 + 9, 32, 255])],
             1 => report(2, 300),
             2 => report(0, 4097),
             3 => [&[0x11][..], &[2, 0, 0, 0, 0, 9], &4097u16.to_le_bytes(), &[0; 4097]].concat(),
@@ -469,6 +498,8 @@ impl Maker<'_> {
             16 => write_type(random.pick(&[0, 2]), 3, 0, &[1, 1, 2, 81, 6]),
             17 => write_type(2, random.pick(&[1, 2]), 0, &[1, 1, 4, 0, 0, 0, 0]),
             18 => logging[..random.between(1, logging.len() - 1)].to_vec(),
+            20 => question[..random.between(1, question.len() - 1)].to_vec(),
+            21 => [&[0x12][..], &4097u16.to_le_bytes(), &[78; 4097], &[0; 4]].concat(),
             19 => [&[7][..], &reading, &[255; 9], &[2; 19], &4097u16.to_le_bytes(), &[0; 4097]].concat(),
             _ => {
                 let mut cut = random.pick(&self.records);

@@ -10,7 +10,7 @@ use std::time::Duration;
 /// A run that takes longer than this is ended and counts as a difference.
 const LONGEST_RUN: Duration = Duration::from_secs(60);
 
-/// The folder with the programs `frame`, `report` and `replay`.
+/// The folder with the programs `frame`, `report`, `replay` and `explain`.
 pub struct Programs {
     folder: PathBuf,
 }
@@ -18,7 +18,7 @@ pub struct Programs {
 impl Programs {
     /// The programs in this folder; an error names the first one that is missing.
     pub fn new(folder: &Path) -> Result<Programs, String> {
-        for name in ["frame", "report", "replay"] {
+        for name in ["frame", "report", "replay", "explain"] {
             let path = folder.join(name);
             if !path.is_file() {
                 return Err(format!("there is no program {}", path.display()));

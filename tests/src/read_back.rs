@@ -76,7 +76,7 @@ fn given_frames(records: &[Vec<u8>], printed: &str) -> Vec<Vec<u8>> {
 }
 
 /// Behind `length N`, the first N octets of the buffer; none behind another answer.
-fn given_frame(answer: &str) -> Option<Vec<u8>> {
+pub fn given_frame(answer: &str) -> Option<Vec<u8>> {
     let mut lines = answer.lines();
     let length: usize = lines.next()?.strip_prefix("length ")?.parse().ok()?;
     let buffer = lines.next()?.strip_prefix("buffer ")?;

@@ -67,6 +67,14 @@ fn read_elements(
     read_elements(kind, frame, element.next, before)
 }
 
+/// One element of an Event Request by itself: its "own refusals 4 to 8; 4 at 0 also meets another ID or octets
+/// behind", and no element at all.
+pub fn read_event_element(octets: &[u8]) -> Result<RequestElement, Refusal> {
+    let own = |part: &Part| part.id == Kind::Event.request_id() && part.next == octets.len();
+    let element = part_at(octets, 0).filter(own).ok_or(refusal(4, 0))?;
+    read_element(Kind::Event, octets, &element, &[])
+}
+
 /// "each 4, 9, 5, 6, then its subelements from the front": from 9 on.
 fn read_element(
     kind: Kind,

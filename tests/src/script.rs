@@ -1,6 +1,7 @@
 //! Traces in the making, each with what is printed for it: for cases that are worked out by hand.
 
 use crate::cases::{frame, logging, setup, trace, Case, CONSOLE};
+use crate::explain::Question;
 use crate::kind_cases::{peer_link, rsna, LEGACY};
 use crate::octets::{Address, Kind};
 use crate::peer_link::{PeerLink, PeerLogging};
@@ -86,6 +87,13 @@ impl Script {
         let reading = self.reading;
         self.records.push(Record::Report { reading, console, kind, buffer, fill: 0xEE });
         self.printed += &format!("{answer}\nbuffer {frame}{}\n", "ee".repeat(buffer - frame.len() / 2));
+        self
+    }
+
+    /// A question to `explain`, and its line.
+    pub fn explains(mut self, element: &[u8], count: u16, position: u16, line: &str) -> Script {
+        self.records.push(Record::Explain(Question { element: element.to_vec(), count, position }));
+        self.printed += &format!("{line}\n");
         self
     }
 

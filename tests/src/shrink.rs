@@ -1,6 +1,7 @@
 //! The shortest failing input that can be found by taking things away.
 
 use crate::cases::IDENTITY;
+use crate::explain::Question;
 use crate::request::Wanted;
 use crate::trace::{read_record, write_record, Record};
 
@@ -33,7 +34,7 @@ pub fn shrink_list<T: Clone>(items: &[T], fails: &mut dyn FnMut(&[T]) -> bool) -
     }
 }
 
-/// Takes away records, then octets of the identities and frames inside them, then buffer lengths.
+/// Takes away records, then octets of the identities, frames and elements inside them, then buffer lengths.
 pub fn shrink_trace(records: &[Vec<u8>], fails: &mut dyn FnMut(&[Vec<u8>]) -> bool) -> Vec<Vec<u8>> {
     let mut kept = shrink_list(records, fails);
     for index in 0..kept.len() {
@@ -77,8 +78,22 @@ fn shrink_record(record: Record, fails: &mut dyn FnMut(&Record) -> bool) -> Reco
                 |wanted: &[Wanted]| Record::Write { buffer, fill, kind, dialog, wanted: wanted.to_vec() };
             with(&shrink_list(&wanted, &mut |fewer| fails(&with(fewer))))
         }
+        Record::Explain(Question { element, count, position }) => {
+            let with = |element: &[u8], count, position| {
+                Record::Explain(Question { element: element.to_vec(), count, position })
+            };
+            let element = shrink_list(&element, &mut |fewer| fails(&with(fewer, count, position)));
+            let count = lower(count, &mut |count| fails(&with(&element, count, position)));
+            let position = lower(position, &mut |position| fails(&with(&element, count, position)));
+            with(&element, count, position)
+        }
         other => other,
     }
+}
+
+/// The least of the numbers up to 64 below this one that still fails.
+fn lower(number: u16, fails: &mut dyn FnMut(u16) -> bool) -> u16 {
+    (0..number.min(65)).find(|less| fails(*less)).unwrap_or(number)
 }
 
 /// The first of a few lengths below this one that still fails.

@@ -1,5 +1,6 @@
 //! What a run has seen: a check that saw nothing could not have failed.
 
+use crate::absent::Explained;
 use crate::covered::Covered;
 use crate::event_body::EventBody;
 use crate::independence::Compared;
@@ -26,11 +27,12 @@ impl Count {
 }
 
 /// Lines that programs printed, and how often each refusal number was among them; answers compared for
-/// demand 3, and beside document 01's clock; frames exchanged; frames read back, and what was in them; the cases of document 02.
+/// demand 3, and beside document 01's clock; frames exchanged; frames read back, and what was in them; places
+/// explained beside what report calls give; the cases of document 02.
 #[derive(Default)]
 pub struct Tally {
     lines: Count,
-    refusals: [Count; 18],
+    refusals: [Count; 19],
     answers: Count,
     after_change: Count,
     agreed: Count,
@@ -43,6 +45,10 @@ pub struct Tally {
     rsna_events: Count,
     peer_links: Count,
     identities: Count,
+    explained: Count,
+    reported: Count,
+    elements_refused: Count,
+    explain_runs: Count,
     covered: Mutex<Covered>,
     /// How long the requests of fixed traces took, and those of made-up ones.
     pub fixed_waits: Mutex<Waiting>,
@@ -95,6 +101,19 @@ impl Tally {
         }
     }
 
+    /// Counts a run of the program `explain`, and what it printed.
+    pub fn count_explain(&self, printed: &[u8]) {
+        self.explain_runs.add(1);
+        self.count_printed(printed);
+    }
+
+    /// Counts places explained as report calls have it.
+    pub fn count_explained(&self, explained: Explained) {
+        self.explained.add(explained.places);
+        self.reported.add(explained.reported);
+        self.elements_refused.add(explained.refused);
+    }
+
     /// Counts the cases that a trace had, once its answers were as expected.
     pub fn count_covered(&self, covered: &Covered) {
         self.covered.lock().expect("no thread panicked").add(covered);
@@ -116,6 +135,10 @@ impl Tally {
             ("RSNA events among these", &self.rsna_events),
             ("peer links among these", &self.peer_links),
             ("identities among these", &self.identities),
+            ("places explained beside what report calls give", &self.explained),
+            ("reported among these", &self.reported),
+            ("elements that a gate and explain refuse alike", &self.elements_refused),
+            ("runs of the program explain", &self.explain_runs),
         ];
         for (name, count) in &named {
             println!("{name}: {}", count.number());

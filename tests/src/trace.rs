@@ -2,6 +2,8 @@
 
 use crate::clock::Rule;
 use crate::covered::Covered;
+use crate::event_request::Event;
+use crate::explain::Question;
 use crate::listing::list_report;
 use crate::octets::{address_of, u16_of, Address, Kind};
 use crate::order::Order;
@@ -32,13 +34,14 @@ pub enum Record {
     Change { reading: u32, list: Vec<Address> },
     Write { buffer: usize, fill: u8, kind: Kind, dialog: u8, wanted: Vec<Wanted> },
     Read { destination: Address, octets: Vec<u8> },
+    Explain(Question),
 }
 
 impl Record {
-    /// The reading that a call carries; setup and the console's records have none.
+    /// The reading that a call carries; setup, the console's records and a question to `explain` have none.
     pub fn reading(&self) -> Option<u32> {
         match self {
-            Record::Setup { .. } | Record::Write { .. } | Record::Read { .. } => None,
+            Record::Setup { .. } | Record::Write { .. } | Record::Read { .. } | Record::Explain(_) => None,
             Record::Clock { reading }
             | Record::Log { reading, .. }
             | Record::LogRsna { reading, .. }
@@ -191,6 +194,11 @@ impl<'a> Fields<'a> {
         Some((id, self.octets(length)?.to_vec()))
     }
 
+    /// "element's length (2), element, count (2), position (2)".
+    fn question(&mut self) -> Option<Question> {
+        Some(Question { element: self.counted()?, count: self.two()?, position: self.two()? })
+    }
+
     /// One record; nothing where it "is cut, unknown, or has a field out of the range given".
     fn record(&mut self) -> Option<Record> {
         Some(match self.octet()? {
@@ -221,6 +229,7 @@ impl<'a> Fields<'a> {
                 Record::Write { buffer, fill, kind, dialog, wanted }
             }
             0x11 => Record::Read { destination: self.address()?, octets: self.counted()? },
+            0x12 => Record::Explain(self.question()?),
             _ => return None,
         })
     }
@@ -328,7 +337,16 @@ pub fn write_record(record: &Record) -> Vec<u8> {
         Record::Read { destination, octets } => {
             [vec![0x11], destination.to_vec(), counted_octets(octets)].concat()
         }
+        Record::Explain(question) => [vec![0x12], question_octets(question)].concat(),
     }
+}
+
+/// A question's fields, written: those of its record, and the front of what the program `explain` reads.
+pub fn question_octets(question: &Question) -> Vec<u8> {
+    let mut octets = counted_octets(&question.element);
+    octets.extend(question.count.to_le_bytes());
+    octets.extend(question.position.to_le_bytes());
+    octets
 }
 
 /// One element of a request writer's record, written.
@@ -365,13 +383,16 @@ pub fn hexadecimal(octets: &[u8]) -> String {
 }
 
 /// What a trace gives: the text that `replay` prints, what the gate chose for each frame that it gave, behind
-/// each record the longest age taken since setup and the requests outstanding, and the cases that the trace had.
+/// each record the longest age taken since setup and the requests outstanding, the log at the end, where the trace
+/// was refused, and the cases that it had.
 #[derive(Default)]
 pub struct Replayed {
     pub printed: String,
     pub chosen: Vec<ReportFrame>,
     pub ages: Vec<u128>,
     pub outstanding: Vec<Vec<Outstanding>>,
+    pub log: Vec<Event>,
+    pub refused: Option<usize>,
     pub covered: Covered,
 }
 
@@ -411,6 +432,7 @@ fn run_record(
             line(written.map(Answer::Length)) + &buffer_line(&lent)
         }
         Record::Read { destination, octets } => list_report(destination, octets),
+        Record::Explain(question) => question.line(station.log()),
     }
 }
 
@@ -427,8 +449,8 @@ pub fn run_trace(rule: Rule, input: &[u8]) -> Replayed {
     while at < within.len() {
         let Some((record, length)) = read_record(&within[at..]) else {
             replayed.covered.refused_record(&within[at..]);
-            replayed.printed += &format!("trace refused at {at}\n");
-            return replayed;
+            replayed.refused = Some(at);
+            break;
         };
         replayed.covered.before(&station, &record);
         let due = order.before(&station, &record);
@@ -439,6 +461,7 @@ pub fn run_trace(rule: Rule, input: &[u8]) -> Replayed {
         replayed.covered.after(&record, oldest, &printed, chosen.as_ref());
         replayed.covered.timed(before, &station, &record, &printed);
         replayed.covered.ordered(&due, chosen.as_ref());
+        replayed.covered.explained(station.log(), &record);
         replayed.chosen.extend(chosen);
         replayed.ages.push(station.longest_age());
         replayed.outstanding.push(station.outstanding());
@@ -446,9 +469,31 @@ pub fn run_trace(rule: Rule, input: &[u8]) -> Replayed {
         at += length;
     }
     if input.len() > LONGEST_TRACE {
-        replayed.printed += &format!("trace refused at {at}\n");
+        replayed.refused = Some(at);
     }
+    replayed.log = station.log().to_vec();
+    replayed.printed += &refused_line(replayed.refused);
     replayed
+}
+
+/// "prints `trace refused at P`, P the record's first octet"; nothing for a trace that was not refused.
+fn refused_line(refused: Option<usize>) -> String {
+    refused.map_or(String::new(), |at| format!("trace refused at {at}\n"))
+}
+
+/// The program `explain`: it "reads the same fields and then a trace, runs the trace without printing and prints
+/// that line; a trace that is refused prints `trace refused at P`, P counted in the trace; if its own fields are
+/// cut or the length is over 4,096 it prints `trace refused at 0`; the limit of 262,144 is the trace's alone."
+pub fn explain_input(input: &[u8]) -> String {
+    let mut fields = Fields { input, at: 0 };
+    let Some(question) = fields.question() else {
+        return refused_line(Some(0));
+    };
+    let replayed = run_trace(Rule::Elapsed, &input[fields.at..]);
+    match replayed.refused {
+        None => question.line(&replayed.log),
+        refused => refused_line(refused),
+    }
 }
 
 /// What `replay` prints.

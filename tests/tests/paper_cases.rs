@@ -4,21 +4,28 @@
 use differential::cases::{cases, Input};
 use differential::clock::{age, is_late, time_units, Moment};
 use differential::clock_cases::clock_cases;
+use differential::explain_cases::explain_cases;
 use differential::kind_cases::kind_cases;
 use differential::listing::{list_report_input, list_request};
 use differential::order_cases::order_cases;
-use differential::trace::replay;
+use differential::trace::{explain_input, replay};
 use differential::waiting_cases::waiting_cases;
 
 #[test]
 fn every_case_prints_what_the_papers_say() {
     let waiting = waiting_cases().into_iter().map(|(case, _)| case);
-    let cases = cases().into_iter().chain(kind_cases()).chain(clock_cases()).chain(order_cases());
+    let cases = cases()
+        .into_iter()
+        .chain(kind_cases())
+        .chain(clock_cases())
+        .chain(order_cases())
+        .chain(explain_cases());
     for case in cases.chain(waiting) {
         let printed = match &case.input {
             Input::Frame(octets) => list_request(octets),
             Input::Report(octets) => list_report_input(octets),
             Input::Trace(records) => replay(&records.concat()),
+            Input::Explain(fields, records) => explain_input(&[&fields[..], &records.concat()].concat()),
         };
         assert_eq!(printed, case.printed, "{}", case.title);
     }

@@ -47,12 +47,29 @@ fn the_writers_and_the_readers_records() {
 }
 
 #[test]
+fn the_record_of_a_question() {
+    // No element; one of 5 octets, with count 0 and position 0, then 256 and 1; the longest field.
+    let none = [0x12, 0, 0, 0, 0, 0, 0];
+    let after = [0x12, 5, 0, 78, 3, 5, 0, 1, 0, 0, 0, 0];
+    let second = [0x12, 5, 0, 78, 3, 5, 0, 1, 0, 1, 1, 0];
+    let longest = [vec![0x12, 0, 0x10], vec![78; 4096], vec![1, 0, 0, 0]].concat();
+    let log = [&[2, 9, 0, 0, 0][..], &[255; 9], &[2; 19], &[9, 0, 0, 0]].concat();
+    let printed = replay(&[&none[..], &after, &log, &after, &second, &log, &second, &longest].concat());
+    let expected = "refused 4 at 0\nrefused 18 at 0\naccepted\nlogged after acceptance\nrefused 18 at 0\n\
+                    accepted\nreported\nrefused 4 at 0\n";
+    assert_eq!(printed, expected);
+}
+
+#[test]
 fn records_that_are_refused() {
     let clock = [1, 0, 0, 0, 0];
     let writer = |after: &[u8]| [&[0x10, 0, 0, 0][..], after].concat();
-    let refused: [Vec<u8>; 16] = [
+    let refused: [Vec<u8>; 19] = [
         vec![7],
         vec![0x12],
+        vec![0x13],
+        vec![0x12, 2, 0, 78, 0, 0, 0, 0],
+        [vec![0x12, 1, 0x10], vec![0; 5000]].concat(),
         vec![1, 0, 0, 0],
         vec![0, 1, 0],
         vec![0, 0, 0, 1, 2, 0, 0, 0, 0],

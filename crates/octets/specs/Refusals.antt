@@ -1,4 +1,4 @@
--- Document 01, "Why a call is turned away": the number of each cause, and refusals. src/causes.rt has the causes under the same names.
+-- Document 01, "Why a call is turned away": the number of each cause, those of document 02 behind them, and refusals. src/causes.rt has the causes under the same names.
 -- Assumes nothing.
 use Prim.Native.Nat.{ℕ}
 use Rattle.octets.specs.declared.refusals.Refusal.{Refusal}
@@ -71,6 +71,10 @@ badIdentity = 16
 -- and an RSN element that "is 22 octets or absent"
 abbrev pub badReportBody : ℕ
 badReportBody = 17
+
+-- document 02 (f): "a position with no event"
+abbrev pub noLoggedEvent : ℕ
+noLoggedEvent = 18
 
 -- a cause's number, and the place "Returned"
 abbrev pub refused : ℕ → ℕ → Refusal

@@ -32,3 +32,6 @@ pub const BAD_REQUESTER_LIST: u8 = 15;
 pub const BAD_IDENTITY: u8 = 16;
 
 pub const BAD_REPORT_BODY: u8 = 17;
+
+// Document 02 (f).
+pub const NO_LOGGED_EVENT: u8 = 18;

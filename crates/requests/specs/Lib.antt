@@ -1,3 +1,4 @@
 pub mod Elements
+pub mod OneElement
 pub mod Requests
 pub mod Internal

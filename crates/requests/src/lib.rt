@@ -18,6 +18,7 @@ ghost use Prim.Native.Nat.{_+_, _≤_, _<_};
 ghost use lib.ListN.{length, getD, take};
 ghost use Rattle.requests.specs.Elements.{elementCapacity, leastBody, limitAt, timeoutAt, tableOf, subelementsOf, elementOf, blankElement, blankElements, hasToken, zeroToken, badToken, walkElements};
 ghost use Rattle.requests.specs.Internal.{subelementsStart};
+ghost use Rattle.requests.specs.OneElement.{refusedOne, readElement};
 ghost use Rattle.requests.specs.Requests.{refusedRequest, lacksElement, requestOf, headerCause, readRequest};
 
 // The most elements that a request has.
@@ -46,6 +47,12 @@ pub struct Request {
     pub dialog: u8,
     pub count: usize,
     pub elements: [Element; ELEMENT_CAPACITY],
+}
+
+// What a reader finds of one event request element: refused, with the element blank, or the element.
+pub struct OneElement {
+    pub refusal: Refusal,
+    pub element: Element,
 }
 
 // The octets of a body before its subelements.
@@ -288,4 +295,43 @@ pub fn read_request(s: &[u8]) -> Request
         return refused(cause, 0);
     }
     read_elements(s, kind)
+}
+
+fn refused_one(number: u8, place: usize) -> OneElement
+    ensures { λ r. ⌜ r ≡ refusedOne number place ⌝ }
+{
+    OneElement {
+        refusal: Refusal::new(number, place),
+        element: blank_element(),
+    }
+}
+
+// Reads one event request element, all of the octets: as a frame's, with places counted in it.
+pub fn read_element(s: &[u8]) -> OneElement
+    ensures { λ r. ⌜ r ≡ readElement (now (s .entry)) ⌝ }
+{
+    let end = piece_end(s, 0, s.len());
+    if end == 0 {
+        return refused_one(causes::ELEMENT_PAST_END, 0);
+    }
+    if end != s.len() {
+        return refused_one(causes::ELEMENT_PAST_END, 0);
+    }
+    if octet(s, 0) != Kind::Event.request_id() {
+        return refused_one(causes::ELEMENT_PAST_END, 0);
+    }
+    if size(s, 1) < least_body(Kind::Event) {
+        return refused_one(causes::SHORT_ELEMENT, 0);
+    }
+    if zero_token(Kind::Event, octet(s, 2)) {
+        return refused_one(causes::BAD_ELEMENT_TOKEN, 0);
+    }
+    let subs = subelements_of(s, Kind::Event, 0, end);
+    if subs.refusal.number != 0 {
+        return refused_one(subs.refusal.number, subs.refusal.place);
+    }
+    OneElement {
+        refusal: Refusal::none(),
+        element: element_of(s, Kind::Event, 0, subs),
+    }
 }

@@ -1,6 +1,7 @@
 // A station (document 01: a gate): its time, its identity, its log and its requesters, and the calls
 // on it.
 mod clock;
+mod explaining;
 mod frames;
 mod logging;
 mod moves;

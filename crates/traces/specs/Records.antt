@@ -21,6 +21,7 @@ use Rattle.traces.specs.declared.calls.MoveCall.{MoveCall}
 use Rattle.traces.specs.declared.calls.RsnaCall.{RsnaCall}
 use Rattle.traces.specs.declared.calls.WriterCall.{WriterCall}
 use Rattle.traces.specs.declared.calls.ReaderCall.{ReaderCall}
+use Rattle.traces.specs.declared.calls.ExplainCall.{ExplainCall}
 use Rattle.traces.specs.Places.{placeBehindRecord, badLength, octetsEnd, listEnd}
 use Rattle.traces.specs.Elements.{elementsAt}
 
@@ -68,6 +69,8 @@ fieldsEnd s number at =
     else if eqb number 16 then writerCallEnd s at
     -- "`11` report reader: destination (6), length (2), octets"
     else if eqb number 17 then octetsEnd s (placeBehindRecord s at 6)
+    -- "`12` explains: element's length (2), element, count (2), position (2)"
+    else if eqb number 18 then placeBehindRecord s (octetsEnd s at) 4
     else 0
 
 -- "A record that is cut, unknown, or has a field out of the range": 0
@@ -174,3 +177,8 @@ writerFields s at =
 
 unfoldable pub readerFields : List ℕ → ℕ → ReaderCall
 readerFields s at = record { destination = addressAt s at; frame = spanAt s (at + 6) }
+
+unfoldable pub explainFields : List ℕ → ℕ → ExplainCall
+explainFields s at =
+    let element = spanAt s at in
+    record { element = element; count = pairAt s (element .to); position = pairAt s (element .to + 2) }

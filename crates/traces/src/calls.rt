@@ -14,7 +14,7 @@ ghost use mathlib.Core.Path.{_≡_};
 ghost use Prim.Native.Nat.{_+_, _≤_};
 ghost use lib.ListN.{length};
 ghost use Rattle.octets.specs.Fields.{octetsAt};
-ghost use Rattle.traces.specs.Records.{fieldsOf, millisecondsAt, addressesAt, spanAt, setupFields, transitionFields, frameFields, reportFields, moveFields, rsnaFields, peerLinkFields, writerFields, readerFields};
+ghost use Rattle.traces.specs.Records.{fieldsOf, millisecondsAt, addressesAt, spanAt, setupFields, transitionFields, frameFields, reportFields, moveFields, rsnaFields, peerLinkFields, writerFields, readerFields, explainFields};
 
 // Octets of the input, from one position to another.
 pub struct Span {
@@ -70,6 +70,13 @@ pub struct WriterCall {
 pub struct ReaderCall {
     pub destination: [u8; 6],
     pub frame: Span,
+}
+
+// How many places of the log were logged before acceptance, and a position in the log.
+pub struct ExplainCall {
+    pub element: Span,
+    pub count: u16,
+    pub position: u16,
 }
 
 // The position of a record's fields; past the end of the input, that end.
@@ -277,5 +284,18 @@ pub fn reader_call_at(s: &[u8], at: usize) -> ReaderCall
     ReaderCall {
         destination: address_at(s, at),
         frame: span_at(s, at + 6),
+    }
+}
+
+pub fn explain_call_at(s: &[u8], at: usize) -> ExplainCall
+    ensures { λ r. ⌜ r ≡ explainFields (now (s .entry)) (fieldsOf (now (s .entry)) at) ⌝ }
+{
+    let at = fields(s, at);
+    let element = span_at(s, at);
+    let to = element.to;
+    ExplainCall {
+        element,
+        count: pair_at(s, to),
+        position: pair_at(s, to + 2),
     }
 }

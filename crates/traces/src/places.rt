@@ -108,6 +108,7 @@ fn fields_end(s: &[u8], number: u8, at: usize) -> usize
         8 => behind(s, at, 26),
         16 => writer_call_end(s, at),
         17 => octets_end(s, behind(s, at, 6)),
+        18 => behind(s, octets_end(s, at), 4),
         _ => 0,
     }
 }

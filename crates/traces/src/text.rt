@@ -1,4 +1,5 @@
-// The lines of answers and lent buffers, each whole into an array that has room for every one of them.
+// The lines of answers, explanations and lent buffers, each whole into an array that has room for every one of them.
+use explanations::Explanation;
 use octets::least;
 use octets::put;
 use requesters::Answer;
@@ -10,9 +11,9 @@ ghost use Prim.Native.Nat.{_+_, _*_};
 ghost use lib.ListN.{length, take};
 ghost use Rattle.laws.specs.Buffers.{wrote};
 ghost use Rattle.texts.specs.Text.{Puts, written, Within};
-ghost use Rattle.traces.specs.Lines.{numberLine, answerLine, traceRefusalLine, octetsText, bufferLine, lineMost, bufferLineMost};
+ghost use Rattle.traces.specs.Lines.{numberLine, answerLine, explanationLine, traceRefusalLine, octetsText, bufferLine, lineMost, bufferLineMost};
 
-// What the line of an answer or of a trace that is refused has at most.
+// What the line of an answer, of an explanation or of a trace that is refused has at most.
 pub const LINE: usize = 38;
 
 // A lent buffer has at most so many octets.
@@ -38,6 +39,21 @@ pub fn put_answer(line: &mut [u8; LINE], answer: Answer) -> usize
         Answer::Nothing => put(line, 0, b"nothing\n"),
         Answer::Length(n) => put_line(line, b"length ", n),
         Answer::Refused(refusal) => put_refusal(line, 0, refusal),
+    }
+}
+
+// The line of an explanation; its length.
+pub fn put_explanation(line: &mut [u8; LINE], e: Explanation) -> usize
+    ensures { λ r. ⌜ wrote r (now (line .exit)) ≡ written (explanationLine e) (now (line .entry)) ⌝ }
+    ensures { λ r. ⌜ Within lineMost r (now (line .exit)) ⌝ }
+{
+    match e {
+        Explanation::Refused(refusal) => put_refusal(line, 0, refusal),
+        Explanation::LoggedAfter => put(line, 0, b"logged after acceptance\n"),
+        Explanation::WrongType => put(line, 0, b"wrong type\n"),
+        Explanation::Unmet(id) => put_line(line, b"condition ", id as usize),
+        Explanation::LimitReached => put(line, 0, b"limit reached\n"),
+        Explanation::Reported => put(line, 0, b"reported\n"),
     }
 }
 

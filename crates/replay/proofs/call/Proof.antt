@@ -1,8 +1,9 @@
--- `replay::call` meets its contract: the number of the record picks its call.
+-- `replay::call` meets its contract: what is printed goes by the number of the record.
 -- Assumes nothing.
-use borrow.Author.Tests.{ne-eqb}
+use mathlib.Core.Path.{ap, _∙_}
 use Rattle.laws.specs.Choice.{if_then_else_}
-use Rattle.replay.specs.Replay.{stationAfter}
+use Rattle.station.specs.Views.{view}
+use Rattle.replays.specs.Replay.{stationAfter}
 use borrow.Author.Needs.{needs}
 use Rattle.replay.proofs.call.Statement.{statement}
 use Rattle.replay.proofs.call.Tie as tie
@@ -10,32 +11,8 @@ use Rattle.replay.proofs.call.Tie as tie
 octet-requires : tie.Need-octet-requires
 octet-requires c κs = search needs
 
-set-up-requires : tie.Need-set-up-requires
-set-up-requires c κs = search needs
-
-tick-requires : tie.Need-tick-requires
-tick-requires c κs = search needs
-
-log-transition-requires : tie.Need-log-transition-requires
-log-transition-requires c κs = search needs
-
-take-frame-requires : tie.Need-take-frame-requires
-take-frame-requires c κs = search needs
-
 report-requires : tie.Need-report-requires
 report-requires c κs = search needs
-
-roam-requires : tie.Need-roam-requires
-roam-requires c κs = search needs
-
-change-network-requires : tie.Need-change-network-requires
-change-network-requires c κs = search needs
-
-log-rsna-requires : tie.Need-log-rsna-requires
-log-rsna-requires c κs = search needs
-
-log-peer-link-requires : tie.Need-log-peer-link-requires
-log-peer-link-requires c κs = search needs
 
 write-requires : tie.Need-write-requires
 write-requires c κs = search needs
@@ -43,76 +20,51 @@ write-requires c κs = search needs
 read-requires : tie.Need-read-requires
 read-requires c κs = search needs
 
+explain-at-requires : tie.Need-explain-at-requires
+explain-at-requires c κs = search needs
+
+print-explanation-requires : tie.Need-print-explanation-requires
+print-explanation-requires c κs = search needs
+
+outcome-at-requires : tie.Need-outcome-at-requires
+outcome-at-requires c κs = search needs
+
+after-requires : tie.Need-after-requires
+after-requires c κs = search needs
+
 returns : tie.Need-returns
 unfolding stationAfter if_then_else_
-returns c = rw (← c .before .before .octet .ensures, c .before .match .keys1) (c .set-up .ensures)
+returns c = rw (← c .before .before .octet .ensures, c .before .match .keys1) (c .report .ensures)
 
 returns-2 : tie.Need-returns-2
 unfolding stationAfter if_then_else_
-returns-2 c = rw (← c .before .before .octet .ensures, c .before .match .keys2) (c .tick .ensures)
+returns-2 c = rw (← c .before .before .octet .ensures, c .before .match .keys2)
 
 returns-3 : tie.Need-returns-3
 unfolding stationAfter if_then_else_
-returns-3 c = rw (← c .before .before .octet .ensures, c .before .match .keys3) (c .log-transition .ensures)
+returns-3 c = rw (← c .before .before .octet .ensures, c .before .match .keys3)
 
 returns-4 : tie.Need-returns-4
 unfolding stationAfter if_then_else_
-returns-4 c = rw (← c .before .before .octet .ensures, c .before .match .keys4) (c .take-frame .ensures)
+returns-4 c = rw (← c .before .before .before .octet .ensures, c .before .before .match .keys4)
 
 returns-5 : tie.Need-returns-5
-unfolding stationAfter if_then_else_
-returns-5 c = rw (← c .before .before .octet .ensures, c .before .match .keys5) (c .report .ensures)
-
-returns-6 : tie.Need-returns-6
-unfolding stationAfter if_then_else_
-returns-6 c = rw (← c .before .before .octet .ensures, c .before .match .keys6) (c .roam .ensures)
-
-returns-7 : tie.Need-returns-7
-unfolding stationAfter if_then_else_
-returns-7 c = rw (← c .before .before .octet .ensures, c .before .match .keys7) (c .change-network .ensures)
-
-returns-8 : tie.Need-returns-8
-unfolding stationAfter if_then_else_
-returns-8 c = rw (← c .before .before .octet .ensures, c .before .match .keys8) (c .log-rsna .ensures)
-
-returns-9 : tie.Need-returns-9
-unfolding stationAfter if_then_else_
-returns-9 c = rw (← c .before .before .octet .ensures, c .before .match .keys9) (c .log-peer-link .ensures)
-
-returns-10 : tie.Need-returns-10
-unfolding stationAfter if_then_else_
-returns-10 c = rw (← c .before .before .octet .ensures, c .before .match .keys10)
-
-returns-11 : tie.Need-returns-11
-unfolding stationAfter if_then_else_
-returns-11 c =
-    let r = c .before .match .rest in
-    rw (← c .before .before .octet .ensures, ne-eqb _ 0 (r .0 .0 .0 .0 .0 .0 .0 .0 .0 .1), ne-eqb _ 1 (r .0 .0 .0 .0 .0 .0 .0 .0 .1), ne-eqb _ 2 (r .0 .0 .0 .0 .0 .0 .0 .1), ne-eqb _ 3 (r .0 .0 .0 .0 .0 .0 .1), ne-eqb _ 4 (r .0 .0 .0 .0 .0 .1), ne-eqb _ 5 (r .0 .0 .0 .0 .1), ne-eqb _ 6 (r .0 .0 .0 .1), ne-eqb _ 7 (r .0 .0 .1), ne-eqb _ 8 (r .0 .1))
+returns-5 c = ap view (c .after .ensures) ∙ c .before .outcome-at .ensures
 
 pub call-spec : {M : Type 1} → statement M
 call-spec =
     tie.close
     (tie.spec
     octet-requires
-    set-up-requires
-    tick-requires
-    log-transition-requires
-    take-frame-requires
     report-requires
-    roam-requires
-    change-network-requires
-    log-rsna-requires
-    log-peer-link-requires
     write-requires
     read-requires
+    explain-at-requires
+    print-explanation-requires
+    outcome-at-requires
+    after-requires
     returns
     returns-2
     returns-3
     returns-4
-    returns-5
-    returns-6
-    returns-7
-    returns-8
-    returns-9
-    returns-10
-    returns-11)
+    returns-5)

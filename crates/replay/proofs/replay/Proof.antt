@@ -6,7 +6,7 @@ use native.Mathlib.Omega.{arith}
 use lib.ListN.{length}
 use borrow.Author.Needs.{needs}
 use Rattle.station.specs.Views.{view}
-use Rattle.replay.proofs.Laws.{leaves, Replaying, replay-start, replay-stop, replay-end, replay-next}
+use Rattle.replays.proofs.Laws.{leaves, Replaying, replay-start, replay-stop, replay-end, replay-next}
 use Rattle.replay.proofs.replay.Statement.{statement}
 use Rattle.replay.proofs.replay.Tie as tie
 

@@ -1,50 +1,22 @@
 -- `replay::report` meets its contract.
 -- Assumes nothing.
-use mathlib.Core.Path.{sym}
-use lib.ListN.{replicate, length-replicate}
-use lib.Seq.{length-take-le}
-use Rattle.laws.proofs.Arrays.{take-within}
-use Rattle.traces.specs.Places.{longestLength}
+use mathlib.Core.Path.{ap, _∙_}
+use Rattle.station.specs.Views.{view}
 use borrow.Author.Needs.{needs}
 use Rattle.replay.proofs.report.Statement.{statement}
 use Rattle.replay.proofs.report.Tie as tie
 
-report-call-at-requires : tie.Need-report-call-at-requires
-report-call-at-requires c κs = search needs
+report-at-requires : tie.Need-report-at-requires
+report-at-requires c κs = search needs
 
-cast-least : tie.Need-cast-least
-cast-least c = search needs
-
-least-requires : tie.Need-least-requires
-least-requires c κs = search needs
-
-array-borrow-prefix-buf : tie.Need-array-borrow-prefix-buf
-array-borrow-prefix-buf c = search needs
-
-slice-aggregate-report-into : tie.Need-slice-aggregate-report-into
-slice-aggregate-report-into c = sym (length-take-le _ _ (search needs))
-
-report-into-requires : tie.Need-report-into-requires
-report-into-requires c κs = search needs
+after-requires : tie.Need-after-requires
+after-requires c κs = search needs
 
 print-buffer-requires : tie.Need-print-buffer-requires
 print-buffer-requires c κs = search needs
 
 returns : tie.Need-returns
-returns c =
-    let call = c .before .before .before .before .before .before .before .report-call-at .result in
-    let lent = take-within (replicate longestLength (call .fill)) longestLength (c .before .before .before .before .before .least .result) (length-replicate longestLength (call .fill)) (call .length) (c .before .before .before .before .before .least .ensures) in
-    rw (← c .before .before .before .before .before .before .before .report-call-at .ensures) (rw lent at (c .before .before .before .report-into .ensures))
+returns c = ap view (c .before .before .after .ensures) ∙ c .before .before .before .before .before .report-at .ensures
 
 pub report-spec : {M : Type 1} → statement M
-report-spec =
-    tie.close
-    (tie.spec
-    report-call-at-requires
-    cast-least
-    least-requires
-    array-borrow-prefix-buf
-    slice-aggregate-report-into
-    report-into-requires
-    print-buffer-requires
-    returns)
+report-spec = tie.close (tie.spec report-at-requires after-requires print-buffer-requires returns)

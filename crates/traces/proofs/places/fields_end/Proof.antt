@@ -58,6 +58,12 @@ behind-requires-8 c κs = search needs
 octets-end-requires-4 : tie.Need-octets-end-requires-4
 octets-end-requires-4 c κs = search needs
 
+octets-end-requires-5 : tie.Need-octets-end-requires-5
+octets-end-requires-5 c κs = search needs
+
+behind-requires-9 : tie.Need-behind-requires-9
+behind-requires-9 c κs = search needs
+
 returns : tie.Need-returns
 unfolding fieldsEnd if_then_else_
 returns c = rw (c .before .before .match .keys1, ← c .before .octets-end .ensures) (c .list-end .ensures)
@@ -104,9 +110,13 @@ returns-11 c = rw (c .before .before .match .keys11, ← c .before .behind8 .ens
 
 returns-12 : tie.Need-returns-12
 unfolding fieldsEnd if_then_else_
-returns-12 c =
+returns-12 c = rw (c .before .before .match .keys12, ← c .before .octets-end5 .ensures) (c .behind9 .ensures)
+
+returns-13 : tie.Need-returns-13
+unfolding fieldsEnd if_then_else_
+returns-13 c =
     let r = c .match .rest in
-    rw (ne-eqb _ 0 (r .0 .0 .0 .0 .0 .0 .0 .0 .0 .0 .1), ne-eqb _ 1 (r .0 .0 .0 .0 .0 .0 .0 .0 .0 .1), ne-eqb _ 2 (r .0 .0 .0 .0 .0 .0 .0 .0 .1), ne-eqb _ 3 (r .0 .0 .0 .0 .0 .0 .0 .1), ne-eqb _ 4 (r .0 .0 .0 .0 .0 .0 .1), ne-eqb _ 5 (r .0 .0 .0 .0 .0 .1), ne-eqb _ 6 (r .0 .0 .0 .0 .1), ne-eqb _ 7 (r .0 .0 .0 .1), ne-eqb _ 8 (r .0 .0 .1), ne-eqb _ 16 (r .0 .1), ne-eqb _ 17 (r .1))
+    rw (ne-eqb _ 0 (r .0 .0 .0 .0 .0 .0 .0 .0 .0 .0 .0 .1), ne-eqb _ 1 (r .0 .0 .0 .0 .0 .0 .0 .0 .0 .0 .1), ne-eqb _ 2 (r .0 .0 .0 .0 .0 .0 .0 .0 .0 .1), ne-eqb _ 3 (r .0 .0 .0 .0 .0 .0 .0 .0 .1), ne-eqb _ 4 (r .0 .0 .0 .0 .0 .0 .0 .1), ne-eqb _ 5 (r .0 .0 .0 .0 .0 .0 .1), ne-eqb _ 6 (r .0 .0 .0 .0 .0 .1), ne-eqb _ 7 (r .0 .0 .0 .0 .1), ne-eqb _ 8 (r .0 .0 .0 .1), ne-eqb _ 16 (r .0 .0 .1), ne-eqb _ 17 (r .0 .1), ne-eqb _ 18 (r .1))
 
 pub fields-end-spec : {M : Type 1} → statement M
 fields-end-spec =
@@ -129,6 +139,8 @@ fields-end-spec =
     writer-call-end-requires
     behind-requires-8
     octets-end-requires-4
+    octets-end-requires-5
+    behind-requires-9
     returns
     returns-2
     returns-3
@@ -140,4 +152,5 @@ fields-end-spec =
     returns-9
     returns-10
     returns-11
-    returns-12)
+    returns-12
+    returns-13)

@@ -1,0 +1,3 @@
+pub mod Explanations
+pub mod Reasons
+pub mod Internal

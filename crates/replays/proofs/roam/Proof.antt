@@ -1,0 +1,40 @@
+-- `replays::roam` meets its contract.
+-- Assumes nothing.
+use mathlib.Core.Path.{sym}
+use lib.Seq.{length-take-le}
+use borrow.Author.Needs.{needs}
+use Rattle.replays.proofs.roam.Statement.{statement}
+use Rattle.replays.proofs.roam.Tie as tie
+
+move-at-requires : tie.Need-move-at-requires
+move-at-requires c κs = search needs
+
+addresses-at-requires : tie.Need-addresses-at-requires
+addresses-at-requires c κs = search needs
+
+cast-n : tie.Need-cast-n
+cast-n c = search needs
+
+array-share-prefix-list : tie.Need-array-share-prefix-list
+array-share-prefix-list c = search needs
+
+slice-aggregate-roam : tie.Need-slice-aggregate-roam
+slice-aggregate-roam c = sym (length-take-le _ _ (search needs))
+
+roam-requires : tie.Need-roam-requires
+roam-requires c κs = search needs
+
+returns : tie.Need-returns
+returns c = rw (← c .before .before .before .before .before .move-at .ensures, ← c .before .before .before .addresses-at .ensures) (c .roam .ensures .0)
+
+pub roam-spec : {M : Type 1} → statement M
+roam-spec =
+    tie.close
+    (tie.spec
+    move-at-requires
+    addresses-at-requires
+    cast-n
+    array-share-prefix-list
+    slice-aggregate-roam
+    roam-requires
+    returns)
