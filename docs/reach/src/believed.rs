@@ -6,7 +6,7 @@ use crate::reads;
 use crate::{unless, Faults};
 
 /// The entries: all public functions of a crate, or one.
-pub const ENTRIES: [&str; 5] = [
+pub const ENTRIES: [&str; 6] = [
     "station",
     "request_writer::write_request",
     "requests::read_request",
