@@ -1,6 +1,7 @@
 /* Dultxibe: event and diagnostic reporting (IEEE 802.11v) of a timing gate, for C.
  *
- * The functions are proved Rattle code (crates/firmware); link libfirmware.a. This file is written
+ * The functions are proved Rattle code (crates/firmware); link libfirmware.a, and for dultxibe_explain
+ * (crates/firmware_explain) libfirmware_explain.a. This file is written
  * by hand, and nothing proves it: examples/check holds a station's size to the archive, and the
  * assertions at the end hold the other structs to the sizes and offsets of crates/firmware. It is for
  * x86-64 (System V), and needs C11.

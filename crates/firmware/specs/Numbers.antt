@@ -17,9 +17,6 @@ use Rattle.request_writer.specs.Writer.{WriteOutcome}
 use Rattle.report_reader.specs.declared.Report.{Report as Reader·Report}
 use Rattle.report_reader.specs.declared.Element.{Element as Reader·Element}
 use Rattle.report_reader.specs.declared.Step.{Step as Reader·Step}
-use Rattle.explanations.specs.declared.Explanation.{Explanation as Library·Explanation}
-use Rattle.explanations.specs.declared.Explanation.the-variants.{Refused, LoggedAfter, WrongType, Unmet, LimitReached, Reported}
-use Rattle.firmware.specs.declared.Explanation.{Explanation}
 use Rattle.firmware.specs.declared.Reply.{Reply}
 use Rattle.firmware.specs.declared.Outcome.{Outcome}
 use Rattle.firmware.specs.declared.Condition.{Condition}
@@ -66,19 +63,6 @@ numbered r = record { station = r .station; reply = replyTo (r .answer); buffer 
 
 abbrev pub viewed : Outcome → List ℕ → Numbered
 viewed o buffer = record { station = view (o .station); reply = o .reply; buffer = buffer }
-
--- ---- explanations: document 02 (f)'s reasons in their order, from 1 on, a condition with its ID; 0 refused, by a number at a place
-
-abbrev pub explained : ℕ → ℕ → ℕ → ℕ → Explanation
-explained reason condition cause place = record { reason = reason; condition = condition; cause = cause; place = place }
-
-unfoldable pub numberedExplanation : Library·Explanation → Explanation
-numberedExplanation LoggedAfter = explained 1 0 0 0
-numberedExplanation WrongType = explained 2 0 0 0
-numberedExplanation (Unmet id) = explained 3 id 0 0
-numberedExplanation LimitReached = explained 4 0 0 0
-numberedExplanation Reported = explained 5 0 0 0
-numberedExplanation (Refused r) = explained 0 0 (r .number) (r .place)
 
 -- ---- what the request writer takes: the library's elements
 

@@ -1,5 +1,4 @@
 // Setup, and the calls on a station.
-use crate::Explanation;
 use crate::Outcome;
 use crate::Reply;
 use events::PeerLink;
@@ -19,9 +18,7 @@ ghost use Rattle.model.specs.Model.{standard, clock, logging, frame, report, ro
 ghost use Rattle.model.specs.Stations.{setup, step};
 ghost use Rattle.octets.specs.Numbers.{kindOf};
 ghost use Rattle.station.specs.Views.{view, viewOutcome};
-ghost use Rattle.units.specs.Time.{elapsedSince};
-ghost use Rattle.explanations.specs.Explanations.{explanation};
-ghost use Rattle.firmware.specs.Numbers.{numbered, replyTo, viewed, explained, numberedExplanation};
+ghost use Rattle.firmware.specs.Numbers.{numbered, replyTo, viewed};
 
 // The numbers of an answer.
 fn reply_to(answer: Answer) -> Reply
@@ -148,53 +145,4 @@ pub extern "C" fn dultxibe_change_network(g: Station, reading: u32, list: &[[u8;
     ensures { λ r. ⌜ viewed r [] ≡ numbered (step elapsedClock standard (view g) (change reading (now (list .entry)))) ⌝ }
 {
     outcome_of(g.change_network(Milliseconds(reading), list))
-}
-
-// A reason without anything behind it.
-fn plain_reason(reason: u8) -> Explanation
-    ensures { λ r. ⌜ r ≡ explained reason 0 0 0 ⌝ }
-{
-    Explanation {
-        reason,
-        condition: 0,
-        cause: 0,
-        place: 0,
-    }
-}
-
-// The numbers of an explanation.
-fn explanation_of(e: explanations::Explanation) -> Explanation
-    ensures { λ r. ⌜ r ≡ numberedExplanation e ⌝ }
-{
-    match e {
-        explanations::Explanation::Refused(refusal) => Explanation {
-            reason: 0,
-            condition: 0,
-            cause: refusal.number,
-            place: refusal.place,
-        },
-        explanations::Explanation::LoggedAfter => plain_reason(1),
-        explanations::Explanation::WrongType => plain_reason(2),
-        explanations::Explanation::Unmet(condition) => Explanation {
-            reason: 3,
-            condition,
-            cause: 0,
-            place: 0,
-        },
-        explanations::Explanation::LimitReached => plain_reason(4),
-        explanations::Explanation::Reported => plain_reason(5),
-    }
-}
-
-// Why the event at a position of the station's log is absent from the reports of an element.
-#[no_mangle]
-pub extern "C" fn dultxibe_explain(
-    g: Station,
-    element: &[u8],
-    count: usize,
-    position: usize,
-) -> Explanation
-    ensures { λ r. ⌜ r ≡ numberedExplanation (explanation elapsedSince (view g .log) (now (element .entry)) count position) ⌝ }
-{
-    explanation_of(g.explain(element, count, position))
 }

@@ -25,17 +25,6 @@ pub struct Outcome {
     pub reply: Reply,
 }
 
-// Why an event is absent: reason 1 logged after acceptance, 2 wrong type, 3 a condition of an ID is not
-// met, 4 limit reached, 5 it is reported; or 0, refused by a cause at a place. What a reason does not have
-// is 0.
-#[repr(C)]
-pub struct Explanation {
-    pub reason: u8,
-    pub condition: u8,
-    pub cause: u8,
-    pub place: usize,
-}
-
 // A condition, present where its flag is not 0.
 #[repr(C)]
 pub struct Condition {

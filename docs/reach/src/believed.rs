@@ -6,8 +6,14 @@ use crate::reads;
 use crate::{unless, Faults};
 
 /// The entries: all public functions of a crate, or one.
-pub const ENTRIES: [&str; 5] =
-    ["station", "request_writer::write_request", "requests::read_request", "report_reader", "firmware"];
+pub const ENTRIES: [&str; 6] = [
+    "station",
+    "request_writer::write_request",
+    "requests::read_request",
+    "report_reader",
+    "firmware",
+    "firmware_explain",
+];
 
 fn contracts<'g>(graph: &'g Graph, entry: &str) -> Vec<&'g Contract> {
     let (krate, function) = entry.split_once("::").unwrap_or((entry, ""));

@@ -1,9 +1,9 @@
--- `firmware::calls::explanation_of` meets its contract.
+-- `firmware_explain::explanation_of` meets its contract.
 -- Assumes nothing.
-use Rattle.firmware.specs.Numbers.{numberedExplanation}
+use Rattle.firmware_explain.specs.Numbers.{numberedExplanation}
 use borrow.Author.Needs.{needs}
-use Rattle.firmware.proofs.calls.explanation_of.Statement.{statement}
-use Rattle.firmware.proofs.calls.explanation_of.Tie as tie
+use Rattle.firmware_explain.proofs.explanation_of.Statement.{statement}
+use Rattle.firmware_explain.proofs.explanation_of.Tie as tie
 
 enum-known-e : tie.Need-enum-known-e
 enum-known-e c = search needs

@@ -1,10 +1,10 @@
--- `firmware::calls::dultxibe_explain` meets its contract.
+-- `firmware_explain::dultxibe_explain` meets its contract.
 -- Assumes nothing.
 use mathlib.Core.Path.{ap, _∙_}
-use Rattle.firmware.specs.Numbers.{numberedExplanation}
+use Rattle.firmware_explain.specs.Numbers.{numberedExplanation}
 use borrow.Author.Needs.{needs}
-use Rattle.firmware.proofs.calls.dultxibe_explain.Statement.{statement}
-use Rattle.firmware.proofs.calls.dultxibe_explain.Tie as tie
+use Rattle.firmware_explain.proofs.dultxibe_explain.Statement.{statement}
+use Rattle.firmware_explain.proofs.dultxibe_explain.Tie as tie
 
 explain-requires : tie.Need-explain-requires
 explain-requires c κs = search needs
