@@ -23,7 +23,7 @@ use Rattle.requests.specs.Requests.{readRequest}
 use Rattle.events.specs.declared.Entry.{Entry}
 use Rattle.model.specs.declared.Diagnostic.{Diagnostic as DiagnosticElement}
 use Rattle.model.specs.Clocks.{Timer, elapsedAt, elapsedClock, advanced}
-use Rattle.model.specs.Model.{Capacities, Address, DiagnosticRequest, Requester, Station, frame, accepted, Result}
+use Rattle.model.specs.Model.{Capacities, Address, Listed, DiagnosticRequest, Requester, Station, frame, accepted, Result}
 use Rattle.model.specs.Dialogs.{replace}
 use Rattle.model.specs.Requesters.{badList, newRequester, find, put}
 use Rattle.model.specs.Diagnostics.{isLate, onTime, unlessOver, dropLate, diagnosticsOf, takeDiagnostics}
@@ -97,14 +97,14 @@ module _ (now : ℕ) where
   unfolding tickRequester
   calm-dropped [] nil = refl
   calm-dropped (r ∷ rs) (also h hs) =
-      ap₂ (λ (o : Option DiagnosticRequest) (l : List Requester). record { address = r .address; events = r .events; diagnostics = o } ∷ l) h (calm-dropped rs hs)
+      ap₂ (λ (o : Option DiagnosticRequest) (l : List Requester). record { address = r .address; form = r .form; events = r .events; diagnostics = o } ∷ l) h (calm-dropped rs hs)
 
   dropped-calm : (rs : List Requester) → All Calm (map (tickRequester elapsedSince now) rs)
   unfolding tickRequester
   dropped-calm [] = nil
   dropped-calm (r ∷ rs) = also (drop-settled (r .diagnostics)) (dropped-calm rs)
 
-  new-calm : (l : List Address) → All Calm (map newRequester l)
+  new-calm : (l : List Listed) → All Calm (map newRequester l)
   unfolding newRequester dropLate
   new-calm [] = nil
   new-calm (a ∷ l) = also refl (new-calm l)
@@ -258,7 +258,7 @@ frames-unordered most g t d e a b o p n = record {
 -- ---- moves and network changes
 
 module _ (most : Capacities) where
-  rename-still : (t : ℕ) (log : List Entry) (l : List Address) (u : Station) → Still t u → Still t (rename most log l u .station)
+  rename-still : (t : ℕ) (log : List Entry) (l : List Listed) (u : Station) → Still t u → Still t (rename most log l u .station)
   unfolding rename renameWith
   rename-still t log l u s = either (λ (x : Result). Still t (x .station)) _ _ _ (λ _. s) (λ _. go (u .identity))
     where
@@ -274,7 +274,7 @@ module _ (most : Capacities) where
   same-again : (x y : Result) → x ≡ y → Again x y
   same-again x y e = record { same-reply = ap replyOf e; same-station = λ _. ap (λ (z : Result). z .station) e }
 
-  rename-again : (log : List Entry) (l m : List Address) (u : Station) → Again (rename most [] m (rename most log l u .station)) (rename most [] m u)
+  rename-again : (log : List Entry) (l m : List Listed) (u : Station) → Again (rename most [] m (rename most log l u .station)) (rename most [] m u)
   unfolding rename renameWith if_then_else_
   rename-again log l m u = go (badList (most .requesters) m) (badList (most .requesters) l) (u .identity) refl
     where
@@ -287,7 +287,7 @@ module _ (most : Capacities) where
       go false false (some i) e = same-again _ _ refl
 
   -- the same change twice; a refused one leaves the station as it is
-  rename-twice : (l : List Address) (u : Station) → rename most [] l (rename most [] l u .station) ≡ rename most [] l u
+  rename-twice : (l : List Listed) (u : Station) → rename most [] l (rename most [] l u .station) ≡ rename most [] l u
   unfolding rename renameWith if_then_else_
   rename-twice l u = go (badList (most .requesters) l) (u .identity) refl
     where

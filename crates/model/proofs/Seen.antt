@@ -17,7 +17,7 @@ use Rattle.octets.proofs.AddressLaws.{same-true}
 use Rattle.requests.specs.declared.Request.{Request}
 use Rattle.events.specs.declared.Entry.{Entry}
 use Rattle.model.specs.Clocks.{Timer, Clock, advanced}
-use Rattle.model.specs.Model.{Capacities, Address, Requester, Station, Call, clock, logging, frame, report, roam, change, accepted, Result}
+use Rattle.model.specs.Model.{Capacities, Address, Listed, Requester, Station, Call, clock, logging, frame, report, roam, change, accepted, Result}
 use Rattle.requests.specs.Requests.{readRequest}
 use Rattle.events.specs.Loggings.{LoggedEvent, entryOf}
 use Rattle.events.specs.Log.{pushed}
@@ -100,11 +100,11 @@ logSeen most reading e v =
 unfoldable pub servedSeen : Address → Address → (Requester → Served) → Seen → Seen
 servedSeen s a serve v = if same a s then onSlot (λ r. serve r .requester) v else v
 
-renamedSeen : Address → List Entry → List Address → Seen → Option (List ℕ) → Seen
+renamedSeen : Address → List Entry → List Listed → Seen → Option (List ℕ) → Seen
 renamedSeen s log l v none = v
 renamedSeen s log l v (some i) = record { timer = v .timer; identity = some i; log = log; slot = find s (map newRequester l) }
 
-pub renameSeen : Capacities → Address → List Entry → List Address → Seen → Seen
+pub renameSeen : Capacities → Address → List Entry → List Listed → Seen → Seen
 renameSeen most s log l v = if badList (most .requesters) l then v else renamedSeen s log l v (v .identity)
 
 -- what a call makes of it, the late diagnostics dropped
@@ -196,13 +196,13 @@ module _ (s a : Address) (serve : Requester → Served) (b : List ℕ) (g : Stat
   unfolding serveListed servedSeen
   seen-served = seen-found (find a (g .requesters)) refl (same a s) refl
 
-seen-renamed : (s : Address) (log : List Entry) (l : List Address) (g : Station) (o : Option (List ℕ))
+seen-renamed : (s : Address) (log : List Entry) (l : List Listed) (g : Station) (o : Option (List ℕ))
     → seen s (renameWith log l g o .station) ≡ renamedSeen s log l (seen s g) o
 unfolding seen renameWith renamedSeen
 seen-renamed s log l g none = refl
 seen-renamed s log l g (some i) = refl
 
-seen-rename : (most : Capacities) (s : Address) (log : List Entry) (l : List Address) (g : Station) → seen s (rename most log l g .station) ≡ renameSeen most s log l (seen s g)
+seen-rename : (most : Capacities) (s : Address) (log : List Entry) (l : List Listed) (g : Station) → seen s (rename most log l g .station) ≡ renameSeen most s log l (seen s g)
 unfolding rename renameSeen seen
 seen-rename most s log l g =
     apply-if (λ (x : Result). seen s (x .station)) (badList (most .requesters) l) _ _

@@ -18,7 +18,7 @@ use Rattle.events.specs.Log.{pushed}
 use Rattle.events.specs.Loggings.{LoggedEvent, Logging, entryFor}
 use Rattle.identities.specs.Identity.{goodIdentity}
 use Rattle.model.specs.Clocks.{Timer, Clock}
-use Rattle.model.specs.Model.{Capacities, Address, Requester, Station, Call, clock, logging, frame, report, roam, change, Result}
+use Rattle.model.specs.Model.{Capacities, Address, Listed, Requester, Station, Call, clock, logging, frame, report, roam, change, Result}
 use Rattle.model.specs.Requesters.{newRequester, find, put}
 use Rattle.model.specs.Stations.{nobody, newStation, setup, timed, tickRequester, withoutLate, tick, logRequester, logEntry, logCause, logCall, Served, withRequester, serveFound, serveListed, requestCall, frameCall, reportCall, renameWith, rename, act, readingOf, step}
 use Rattle.model.specs.Runs.{run}
@@ -56,7 +56,7 @@ module _ (i : List ℕ) where
   identified-kept g h e f (identified p q) = identified (e ∙ p) q
   identified-kept g h e f (unidentified p q) = unidentified (e ∙ p) (f q)
 
-  identified-named : (g : Station) (t : Timer) (j : List ℕ) (log : List Entry) (l : List Address) → g .identity ≡ some j → Identified i g → Identified i (newStation t j log l)
+  identified-named : (g : Station) (t : Timer) (j : List ℕ) (log : List Entry) (l : List Listed) → g .identity ≡ some j → Identified i g → Identified i (newStation t j log l)
   identified-named g t j log l e (identified p q) = identified (sym e ∙ p) q
   identified-named g t j log l e (unidentified p q) = never cc
 
@@ -72,12 +72,12 @@ module _ (most : Capacities) (i : List ℕ) (cs : List Call) where
     sound-found a serve b none = s
     sound-found a serve b (some r) = record { log = s .log; identity = identified-kept i g _ refl (λ e. ap (put a (serve r .requester)) e) (s .identity) }
 
-    sound-renamed : (log : List Entry) (l : List Address) → LoggedBy cs log → (o : Option (List ℕ)) → g .identity ≡ o → After (renameWith log l g o)
+    sound-renamed : (log : List Entry) (l : List Listed) → LoggedBy cs log → (o : Option (List ℕ)) → g .identity ≡ o → After (renameWith log l g o)
     unfolding renameWith
     sound-renamed log l j none e = s
     sound-renamed log l j (some k) e = record { log = j; identity = identified-named i g (g .timer) k log l e (s .identity) }
 
-    sound-rename : (log : List Entry) (l : List Address) → LoggedBy cs log → After (rename most log l g)
+    sound-rename : (log : List Entry) (l : List Listed) → LoggedBy cs log → After (rename most log l g)
     unfolding rename
     sound-rename log l j = either After _ _ _ (λ _. s) (λ _. sound-renamed log l j (g .identity) refl)
 
@@ -115,7 +115,7 @@ module _ (most : Capacities) (i : List ℕ) (cs : List Call) where
   sound-nobody : Sound i cs nobody
   sound-nobody = record { log = logged-empty cs; identity = unidentified refl refl }
 
-  sound-setup : (l : List Address) → Sound i cs (setup most i l .station)
+  sound-setup : (l : List Listed) → Sound i cs (setup most i l .station)
   unfolding setup
   sound-setup l =
       either After _ _ _ (λ _. sound-nobody)
