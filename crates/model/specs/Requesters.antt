@@ -17,14 +17,17 @@ unfoldable pub repeated : List Listed → Bool
 repeated [] = false
 repeated (x ∷ l) = any (λ y. same (listedAddress x) (listedAddress y)) l || repeated l
 
--- "Console list empty, over the most, repeated, or with a group address" (15), and document 02 (g): "a form number other than 0 or 1 with 15"
+-- "a group address", and document 02 (g): "a form number other than 0 or 1"
+unfoldable pub badListed : Listed → Bool
+badListed x = if isGroup (listedAddress x) then true else not (isForm (listedForm x))
+
+-- "Console list empty, over the most, repeated, or with a group address" (15), or such a form
 unfoldable pub badList : ℕ → List Listed → Bool
 badList most l =
     if eqb (length l) 0 then true
     else if ltb most (length l) then true
     else if repeated l then true
-    else if any (λ x. isGroup (listedAddress x)) l then true
-    else any (λ x. not (isForm (listedForm x))) l
+    else any badListed l
 
 -- a requester just named: it has no request
 unfoldable pub newRequester : Listed → Requester

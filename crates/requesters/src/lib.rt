@@ -53,10 +53,11 @@ pub struct DiagnosticRequest {
     pub dialog: u8,
 }
 
-// A requester, with at most one request of each kind.
+// A requester, with the form that it follows (document 02 (g)) and at most one request of each kind.
 #[repr(C)]
 pub struct Requester {
     pub address: [u8; 6],
+    pub form: u8,
     pub events: EventRequest,
     pub diagnostics: DiagnosticRequest,
 }
