@@ -26,14 +26,14 @@ pub record Differ (form told : ℕ) : Type 0 where
 -- "for each kind the body lengths of the two forms differ": whatever else stands in the frame, a body of one form is none of the other
 abbrev pub LengthsDiffer : Type 0
 LengthsDiffer =
-    {form told : ℕ} → Differ form told
+    (form told : ℕ) → Differ form told
     → (reading : ℕ) (x : LoggedEvent) → EventLengths x → goodRsnElement x ≡ true
     → (s : List ℕ) (at : ℕ) → isEventLength told s at (reportLength form (length (eventBody reading x))) (eventType x) ≡ false
 
 -- "and a body of the other form's length with 17": where an event stands in one form, a reader told the other refuses it
 abbrev pub OtherFormRefused : Type 0
 OtherFormRefused =
-    {form told : ℕ} → Differ form told
+    (form told : ℕ) → Differ form told
     → (token : ℕ) (x : Logging) → Valid Event (loggedEvent token x)
     → (s : List ℕ) (at : ℕ) (r : List ℕ) → drop at s ≡ contentOctets form Event (loggedEvent token x) ++ r
     → stepAt told s Event at ≡ refusedStep badReportBody at
@@ -44,7 +44,7 @@ NoEvent x = x .event ≡ none
 
 abbrev pub OtherFormNeverShown : Type 0
 OtherFormNeverShown =
-    {form told : ℕ} → Differ form told
+    (form told : ℕ) → Differ form told
     → (dialog : ℕ) (xs : List (Content Event)) → All (Valid Event) xs → length (contentFrame form Event dialog xs) ≤ longestFrame
     → All NoEvent (readElements told (contentFrame form Event dialog xs) Event .elements)
 

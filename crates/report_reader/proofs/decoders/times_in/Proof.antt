@@ -1,46 +1,40 @@
+-- `report_reader::decoders::times_in` meets its contract.
+-- Assumes nothing.
+use borrow.Author.Tests.{ne-eqb}
+use Rattle.laws.specs.Choice.{if_then_else_}
+use Rattle.report_reader.specs.Decoders.{timesIn}
 use borrow.Author.Needs.{needs}
 use Rattle.report_reader.proofs.decoders.times_in.Statement.{statement}
 use Rattle.report_reader.proofs.decoders.times_in.Tie as tie
-use Rattle.report_reader.proofs.decoders.times_in.Reads as reads
-use Rattle.report_reader.proofs.decoders.times_in.Lts as lts
-use Rattle.octets.proofs.read_at.Reads as read-at-reads
-use Rattle.octets.proofs.time_at.Reads as time-at-reads
 
--- src/decoders.rt:88:19
 time-at-requires : tie.Need-time-at-requires
 time-at-requires c κs = search needs
 
--- src/decoders.rt:87:9
 returns : tie.Need-returns
-returns c = ?
+unfolding timesIn if_then_else_
+returns c = rw (c .before .if1 .taken, c .time-at .ensures)
 
--- src/decoders.rt:94:19
 slice-aggregate-read-at : tie.Need-slice-aggregate-read-at
 slice-aggregate-read-at c = search needs
 
--- src/decoders.rt:94:5
 read-at-requires : tie.Need-read-at-requires
 read-at-requires c κs = search needs
 
--- src/decoders.rt:95:19
 slice-aggregate-read-at-2 : tie.Need-slice-aggregate-read-at-2
 slice-aggregate-read-at-2 c = search needs
 
--- src/decoders.rt:95:5
 read-at-requires-2 : tie.Need-read-at-requires-2
 read-at-requires-2 c κs = search needs
 
--- src/decoders.rt:96:20
 slice-aggregate-read-at-3 : tie.Need-slice-aggregate-read-at-3
 slice-aggregate-read-at-3 c = search needs
 
--- src/decoders.rt:96:5
 read-at-requires-3 : tie.Need-read-at-requires-3
 read-at-requires-3 c κs = search needs
 
--- src/decoders.rt:80:1
 returns-2 : tie.Need-returns-2
-returns-2 c = ?
+unfolding timesIn if_then_else_
+returns-2 c = rw (ne-eqb _ _ (c .before .before .before .before .before .before .before .before .before .if1 .left), c .before .before .before .before .before .before .before .read-at .ensures, c .before .before .before .before .read-at2 .ensures, c .before .read-at3 .ensures)
 
 pub times-in-spec : {M : Type 1} → statement M
 times-in-spec =
