@@ -43,7 +43,7 @@ use Rattle.model.specs.Stations.{refusedFor, tickRequester, Served, serv
 use Rattle.model.specs.Runs.{run, sender, Reply, reply, toSender}
 use Rattle.model.specs.Independence.{quietFor, quiet}
 use Rattle.model.specs.NewestFirst.{latestMatches, orBare, treatedReports, requestReports, behindHeader, eventsIn, eventsOf, eventsGiven, OpensEvents, LetsBe, GivenInOrder, NewestFirst}
-use Rattle.model.proofs.Seen.{Seen, seen, tickSeen, servedSeen, actSeen, stepSeen, seen-step, quiet-step, servedReply, seenReply, stepReply, seen-reply}
+use Rattle.model.proofs.Seen.{Seen, seen, tickSeen, servedSeen, actSeen, stepSeen, seen-step, quiet-step, servedReply, seenReply, stepReply, seen-reply, kind-keeps, give-keeps}
 
 -- ---- the places that one element gives
 
@@ -310,22 +310,6 @@ module _ (k : Clock) (most : Capacities) (s : Address) (form : ℕ) (log : List 
       go none = refl
       go (some q) = refl
 
-  form-kept : (i : Option (List ℕ)) (l : List Entry) (kind : Kind) (b : List ℕ) (r : Requester) → giveReport (k .since) i l kind b r .requester .form ≡ r .form
-  unfolding giveReport giveKind ifOutstanding giveEvents giveDiagnostics
-  form-kept i l kind b r = either (λ (x : Served). x .requester .form ≡ r .form) _ _ _ (λ _. refl) (λ _. go kind)
-    where
-      of-events : (o : Option EventRequest) → ifOutstanding (giveEvents (k .since) l b r) r b o .requester .form ≡ r .form
-      of-events none = refl
-      of-events (some q) = refl
-
-      of-diagnostics : (o : Option DiagnosticRequest) → ifOutstanding (giveDiagnostics (octetsOf i) b r) r b o .requester .form ≡ r .form
-      of-diagnostics none = refl
-      of-diagnostics (some q) = refl
-
-      go : (kind : Kind) → giveKind (k .since) i l b r kind .requester .form ≡ r .form
-      go Event = of-events (r .events)
-      go Diagnostic = of-diagnostics (r .diagnostics)
-
   seen-gave : (l : List Entry) → l ≡ log → (i : Option (List ℕ)) (b : List ℕ) (r : Requester) → r .form ≡ form → (os : List (List ℕ)) → Left (nextEvent (k .since) form log) (r .events) os
       → Gave (k .since) form log os (giveReport (k .since) i l Event b r)
   seen-gave l e i b r h os x = rw e (in-form (k .since) log (r .events) os _ (r .form) form h (report-gave (k .since) log i b r os) x)
@@ -339,14 +323,14 @@ module _ (k : Clock) (most : Capacities) (s : Address) (form : ℕ) (log : List 
       record {
         count = f .count;
         octets = rw (same-refl s, own-reply g t Event b (y .requester) (y .found)) (f .octets);
-        after = rw (own-seen g t Event b (y .requester) (y .found)) (record { requester = _; found = refl; same-log = y .same-log; same-form = form-kept _ _ Event b (y .requester) ∙ y .same-form; left = f .left });
+        after = rw (own-seen g t Event b (y .requester) (y .found)) (record { requester = _; found = refl; same-log = y .same-log; same-form = give-keeps (k .since) _ _ Event b (y .requester) .1 ∙ y .same-form; left = f .left });
       }
   own-gave os g t Diagnostic b x =
       let y = tick-stands os t (seen s g) x in
       record {
         count = 0;
         octets = rw (same-refl s);
-        after = rw (own-seen g t Diagnostic b (y .requester) (y .found)) (record { requester = _; found = refl; same-log = y .same-log; same-form = form-kept _ _ Diagnostic b (y .requester) ∙ y .same-form; left = rw (events-kept _ _ b (y .requester)) (y .left) });
+        after = rw (own-seen g t Diagnostic b (y .requester) (y .found)) (record { requester = _; found = refl; same-log = y .same-log; same-form = give-keeps (k .since) _ _ Diagnostic b (y .requester) .1 ∙ y .same-form; left = rw (events-kept _ _ b (y .requester)) (y .left) });
       }
 
   call-gave : (os : List (List ℕ)) (g : Station) (c : Call) → LetsBe s c → Standing os (seen s g) → GaveSome os g c
@@ -420,11 +404,6 @@ module _ (k : Clock) (most : Capacities) (g : Station) (t : ℕ) (d s : Address)
     kind-events now r Event e = refl
     kind-events now r Diagnostic e = never cc
 
-    kind-form : (now : ℕ) (r : Requester) (kind : Kind) → takeKind now (g .log) asked r kind .form ≡ r .form
-    unfolding takeKind
-    kind-form now r Event = refl
-    kind-form now r Diagnostic = refl
-
     open-slot : (r : Requester) → find s (g .requesters) ≡ some r → (x : Requester) → x .form ≡ r .form → x .events ≡ takeEvents (length (g .log)) asked (r .events)
         → Opened (record { timer = ticked .timer; identity = ticked .identity; log = ticked .log; slot = some x })
     unfolding tickSeen seen dialogIn dialogOf openEvents formIn
@@ -449,7 +428,7 @@ module _ (k : Clock) (most : Capacities) (g : Station) (t : ℕ) (d s : Address)
         go true slot f y i h = never cc
         go false none f y i h = let z : refusedFor unknownRequester ≡ accepted = rw f at h in never cc
         go false (some r) f true i h = let z : turnedAway (asked .refusal) ≡ accepted = rw (f, i) at h in never cc
-        go false (some r) f false i h = rw (same-refl s, f, i) (open-slot r f _ (kind-form (ticked .timer .now) (tickRequester (k .since) (ticked .timer .now) r) (asked .kind)) (kind-events (ticked .timer .now) (tickRequester (k .since) (ticked .timer .now) r) (asked .kind) asks))
+        go false (some r) f false i h = rw (same-refl s, f, i) (open-slot r f _ (kind-keeps (ticked .timer .now) (g .log) asked (tickRequester (k .since) (ticked .timer .now) r) (asked .kind) .1) (kind-events (ticked .timer .now) (tickRequester (k .since) (ticked .timer .now) r) (asked .kind) asks))
 
 pub newest-first : NewestFirst
 newest-first k most g t d s o later opens lets =

@@ -31,7 +31,7 @@ use Rattle.model.specs.Stations.{result, refusedFor, tickRequester, with
 use Rattle.model.specs.Runs.{run, reply, sender}
 use Rattle.model.specs.Independence.{quietFor}
 use Rattle.model.specs.Order.{FramesUnordered, ChangesEqualOne, MoveLeavesNoTrace}
-use Rattle.model.proofs.Seen.{Keeps, take-keeps, replyOf}
+use Rattle.model.proofs.Seen.{SameName, Keeps, take-keeps, replyOf}
 use Rattle.model.proofs.Independence.{independent-of-others}
 
 -- ---- a second late drop finds nothing
@@ -166,8 +166,8 @@ update-swap a b n f h kf kh (r ∷ rs) = go (same a (r .address)) refl (same b (
     go : (s : Bool) → same a (r .address) ≡ s → (t : Bool) → same b (r .address) ≡ t → update b h (update a f rs) ≡ update a f (update b h rs)
         → update b h (if s then f r ∷ rs else r ∷ update a f rs) ≡ update a f (if t then h r ∷ rs else r ∷ update b h rs)
     go true p true q e = never (sym n ∙ ap (same a) (same-true b (r .address) q) ∙ p)
-    go true p false q e = rw (kf r, p, q)
-    go false p true q e = rw (kh r, p, q)
+    go true p false q e = rw (kf r .0, p, q)
+    go false p true q e = rw (kh r .0, p, q)
     go false p false q e = rw (p, q, e)
 
 abbrev withRequesters : Station → List Requester → Station
@@ -216,7 +216,7 @@ module _ (most : Capacities) where
 
   taken-keeps : (u : Station) (d : Address) (o : List ℕ) → Keeps (taken u d o)
   unfolding taken
-  taken-keeps u d o r = either (λ (x : Requester). x .address ≡ r .address) _ _ _ (λ _. refl) (λ _. take-keeps (u .timer .now) (u .log) _ r)
+  taken-keeps u d o r = either (λ (x : Requester). SameName x r) _ _ _ (λ _. (refl, refl)) (λ _. take-keeps (u .timer .now) (u .log) _ r)
 
   frame-still : (t : ℕ) (d a : Address) (o : List ℕ) (u : Station) → Still t u → Still t (frameCall most d a o u .station)
   unfolding taken

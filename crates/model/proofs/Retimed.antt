@@ -105,7 +105,7 @@ module _ (f : ℕ → ℕ) where
 
   map-find : (a : Address) (rs : List Requester) → find a (map requesterBy rs) ≡ Option·map requesterBy (find a rs)
   unfolding requesterBy
-  map-find = find-map requesterBy (λ r. refl)
+  map-find = find-map requesterBy (λ r. (refl, refl))
 
   map-put : (a : Address) (x : Requester) (rs : List Requester) → put a (requesterBy x) (map requesterBy rs) ≡ map requesterBy (put a x rs)
   unfolding put requesterBy

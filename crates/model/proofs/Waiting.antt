@@ -104,9 +104,9 @@ module _ (most : Capacities) (kind : Kind) (s : Address) (n : ℕ) (u : Station)
         by-sender true q =
             let own-address : a ≡ s = same-true a s q in
             let before : find s rs ≡ some r = ap (λ (y : Address). find y rs) (sym own-address) ∙ p in
-            let after : find s (put a x rs) ≡ some x = ap (λ (y : Address). find s (put y x rs)) own-address ∙ put-own s x r (keeps r) rs before in
+            let after : find s (put a x rs) ≡ some x = ap (λ (y : Address). find s (put y x rs)) own-address ∙ put-own s x r (keeps r .0) rs before in
             rw (after, before) (own q r (rw before at was))
-        by-sender false q = let y = other (serve r .answer) q in rw (put-other a x r (keeps r) s q rs p) (same-fate _ _ (y .0) (y .1))
+        by-sender false q = let y = other (serve r .answer) q in rw (put-other a x r (keeps r .0) s q rs p) (same-fate _ _ (y .0) (y .1))
 
   rename-fate : (log : List Entry) (l : List Listed) → FateAt (isAccepted (rename most log l u .answer)) 0 (rename most log l u .station .requesters)
   unfolding rename renameWith isAccepted
@@ -313,7 +313,7 @@ module _ (k : Clock) (most : Capacities) (kind : Kind) (s : Address) (n : ℕ) w
       found : (r : Option Requester) → find s (u .requesters) ≡ r → Few (serveFound s serve [] u r)
       found none e = λ p. absurd (opens .was-not p)
       found (some r) e =
-          rw (put-own s (serve r .requester) r (take-keeps (u .timer .now) (u .log) q r) (u .requesters) e)
+          rw (put-own s (serve r .requester) r (take-keeps (u .timer .now) (u .log) q r .0) (u .requesters) e)
           (take-opens most q (request-few (most .elements) o) n (u .timer .now) (u .log) kind enough r (λ p. opens .was-not (rw e p)))
 
 frame-named : (k : Clock) (most : Capacities) (s : Address) (t : ℕ) (d : Address) (o : List ℕ) (g : Station) → let q = readRequest (most .elements) o in
@@ -336,7 +336,7 @@ frame-named k most s t d o g e c = either Named _ _ _ (λ _ e. never cc) (λ _. 
     found : (r : Option Requester) → find s (u .requesters) ≡ r → Named (serveFound s serve [] u r)
     found none p = λ e. never cc
     found (some r) p =
-        rw (put-own s (serve r .requester) r (take-keeps (u .timer .now) (u .log) q r) (u .requesters) p)
+        rw (put-own s (serve r .requester) r (take-keeps (u .timer .now) (u .log) q r .0) (u .requesters) p)
         (take-named (u .timer .now) (u .log) q (request-some (most .elements) o) c r)
 
 module _ (k : Clock) (most : Capacities) (kind : Kind) (enough : (i : List ℕ) (l : List Listed) (cs : List Call) → Enough most (run k most (setup most i l .station) cs .log) kind) where
