@@ -17,7 +17,7 @@ use Rattle.laws.proofs.Parts.{stands-at, stands-first, stands-length, stands-be
 use Rattle.laws.proofs.Pieces.{Each, each-all, along}
 use Rattle.octets.specs.declared.numbers.Kind.{Kind}
 use Rattle.octets.specs.declared.numbers.Kind.the-variants.{Event, Diagnostic}
-use Rattle.octets.specs.Numbers.{reportAction, reportId, successful, longestFrame}
+use Rattle.octets.specs.Numbers.{category, reportAction, reportId, successful, longestFrame}
 use Rattle.octets.specs.Refusals.{noRefusal}
 use Rattle.octets.specs.Fields.{octetsAt}
 use Rattle.octets.specs.Addresses.{isGroup}
@@ -97,11 +97,11 @@ module _ (form : ℕ) (s : List ℕ) (kind : Kind) (at token ty status : ℕ) (r
   unfolding reportElement
   token-there = stands-at s at o r h 2 0
 
-  ty-there : getD s (at + 3) 0 ≡ ty
+  pub ty-there : getD s (at + 3) 0 ≡ ty
   unfolding reportElement
   ty-there = stands-at s at o r h 3 0
 
-  status-there : getD s (at + 4) 0 ≡ status
+  pub status-there : getD s (at + 4) 0 ≡ status
   unfolding reportElement
   status-there = stands-at s at o r h 4 0
 
@@ -109,7 +109,7 @@ module _ (form : ℕ) (s : List ℕ) (kind : Kind) (at token ty status : ℕ) (r
   unfolding reportElement
   end-there = omega arith
 
-  own-there : stepAt form s kind at ≡ ownReportStep form s kind at (length body)
+  pub own-there : stepAt form s kind at ≡ ownReportStep form s kind at (length body)
   unfolding stepAt reportElement if_then_else_
   own-there =
       let l = stands-length s at o r h (omega arith) in
@@ -139,15 +139,15 @@ module _ (form : ℕ) (s : List ℕ) (at : ℕ) where
   unfolding eventStep typedStep if_then_else_
   logged-event n ty m e f t k good = rw (e, f, t, ne-eqb n 3 m, k, good)
 
-  own-event : (n : ℕ) → 3 ≤ n → getD s (at + 4) 0 ≤ 4 → ownReportStep form s Event at n ≡ eventStep form s at n
+  pub own-event : (n : ℕ) → 3 ≤ n → getD s (at + 4) 0 ≤ 4 → ownReportStep form s Event at n ≡ eventStep form s at n
   unfolding ownReportStep if_then_else_
   own-event n few low = rw (le-ltb n 3 few, le-ltb 4 (getD s (at + 4) 0) low)
 
 -- what is found at a position: the step, and what it hands out
-record Found (form : ℕ) (s : List ℕ) (kind : Kind) (at : ℕ) (x : Content kind) : Type 0 where
-  step : stepAt form s kind at ≡ foundStep (contentRead form kind x .element) (at + 5) (at + length (contentOctets form kind x))
-  behind : octetsAt s (at + 5) (contentRead form kind x .element .length) ≡ contentRead form kind x .behind
-  decodes : elementRead form (contentRead form kind x .element) (contentRead form kind x .behind) ≡ contentRead form kind x
+pub record Found (form : ℕ) (s : List ℕ) (kind : Kind) (at : ℕ) (x : Content kind) : Type 0 where
+  pub step : stepAt form s kind at ≡ foundStep (contentRead form kind x .element) (at + 5) (at + length (contentOctets form kind x))
+  pub behind : octetsAt s (at + 5) (contentRead form kind x .element .length) ≡ contentRead form kind x .behind
+  pub decodes : elementRead form (contentRead form kind x .element) (contentRead form kind x .behind) ≡ contentRead form kind x
 
 -- the time fields that stand at a position are good, where the nine octets are
 time-good : (form : ℕ) (s : List ℕ) (at : ℕ) (x : Logging) (r : List ℕ) → EventLengths (x .event) → goodTime (eventTimes (x .event) .time) ≡ true
@@ -244,7 +244,7 @@ module _ (form : ℕ) (s : List ℕ) (at : ℕ) (r : List ℕ) where
   bare-back Event token ty status few h = bare-event token ty status few h
   bare-back Diagnostic token ty status few h = let f = listed-back token ty status [] few h in record { step = f .step; behind = f .behind; decodes = refl }
 
-  content-back : (kind : Kind) (x : Content kind) → Valid kind x → drop at s ≡ contentOctets form kind x ++ r → Found form s kind at x
+  pub content-back : (kind : Kind) (x : Content kind) → Valid kind x → drop at s ≡ contentOctets form kind x ++ r → Found form s kind at x
   unfolding contentOctets
   content-back kind (statusOnly token ty status) may h = bare-back kind token ty status may h
   content-back kind (loggedEvent token x) may h = event-back token x (may .0) (may .1) (may .2) h
@@ -253,7 +253,13 @@ module _ (form : ℕ) (s : List ℕ) (at : ℕ) (r : List ℕ) where
 
 -- ---- whole frames
 
-content-some : (form : ℕ) (kind : Kind) (x : Content kind) → 0 < length (contentOctets form kind x)
+pub report-of : (form : ℕ) → isForm form ≡ true → (kind : Kind) (dialog : ℕ) (o d : List ℕ) → isGroup d ≡ false → length o + 3 ≤ longestFrame
+    → let f = category ∷ reportAction kind ∷ dialog ∷ o in readReport form d f ≡ reportOf kind dialog (readElements form f kind)
+unfolding readReport if_then_else_
+report-of form is kind dialog o d single fits =
+    rw (is, single, head-kind dialog o reportAction refl kind, head-accepted dialog o (reportAction kind) (omega arith))
+
+pub content-some : (form : ℕ) (kind : Kind) (x : Content kind) → 0 < length (contentOctets form kind x)
 unfolding contentOctets eventElement reportElement
 content-some form kind (statusOnly token ty status) = omega arith
 content-some form kind (loggedEvent token x) = omega arith
@@ -276,7 +282,7 @@ module _ (form : ℕ) (kind : Kind) (dialog : ℕ) (xs : List (Content kind)) wh
       (rw (f .step, f .behind, f .decodes, map-append (contentRead form kind) front (x ∷ [])))
 
   module _ (may : All (Valid kind) xs) where
-    elements-back : readElements form frame kind ≡ reading noRefusal (length frame) (map (contentRead form kind) xs)
+    pub elements-back : readElements form frame kind ≡ reading noRefusal (length frame) (map (contentRead form kind) xs)
     unfolding readElements
     elements-back =
         sym (done
@@ -287,10 +293,10 @@ module _ (form : ℕ) (kind : Kind) (dialog : ℕ) (xs : List (Content kind)) wh
     -- and the report has as many elements as were told
     report-back : isForm form ≡ true → (d : List ℕ) → isGroup d ≡ false → length frame ≤ longestFrame
         → readReport form d frame ≡ record { refusal = noRefusal; kind = kind; dialog = dialog; count = length xs }
-    unfolding readReport reportOf if_then_else_
+    unfolding reportOf if_then_else_
     report-back is d single fits =
         let o : List ℕ = pieces (λ _ x. contentOctets form kind x) 0 xs in
-        rw (is, single, head-kind dialog o reportAction refl kind, head-accepted dialog o (reportAction kind) (omega arith), elements-back, length-map xs (contentRead form kind))
+        report-of form is kind dialog o d single (omega arith) ∙ rw (elements-back, length-map xs (contentRead form kind))
 
 -- What is told in a frame is read back of it.
 pub report-round-trip : ReportRoundTrip
