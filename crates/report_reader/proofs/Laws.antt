@@ -40,7 +40,7 @@ module _ (s : List ℕ) (at m : ℕ) where
 
 -- ---- an event's body
 
-time-least : (form : ℕ) → 9 ≤ timeLength form
+pub time-least : (form : ℕ) → 9 ≤ timeLength form
 time-least form = either (λ (n : ℕ). 9 ≤ n) _ _ _ (λ _. omega arith) (λ _. omega arith)
 
 rsna-least : (form first n : ℕ) → isRsnaLength form first n ≡ true → 24 ≤ n

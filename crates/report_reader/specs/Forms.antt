@@ -7,14 +7,15 @@ use mathlib.Core.Bool.{Bool, true, false}
 use mathlib.Core.Option.{none}
 use mathlib.Core.List.{List, _++_}
 use lib.ListN.{length, drop}
-use Rattle.laws.specs.Members.{All}
+use Rattle.laws.specs.Members.{All, any}
 use Rattle.octets.specs.declared.numbers.Kind.{Kind}
 use Rattle.octets.specs.declared.numbers.Kind.the-variants.{Event, Diagnostic}
 use Rattle.octets.specs.Numbers.{longestFrame}
 use Rattle.octets.specs.Refusals.{badReportBody}
+use Rattle.octets.specs.Addresses.{isGroup}
 use Rattle.events.specs.Times.{isForm}
 use Rattle.events.specs.Loggings.{LoggedEvent, eventType, eventBody, goodRsnElement, EventLengths, Logging}
-use Rattle.report_reader.specs.Reader.{refusedStep, reportLength, isEventLength, stepAt, ElementRead, readElements}
+use Rattle.report_reader.specs.Reader.{refusedStep, reportLength, isEventLength, stepAt, ElementRead, readElements, readReport}
 use Rattle.report_reader.specs.Contents.{Content, statusOnly, loggedEvent, keptUnread, withSubelements, Valid, contentOctets, contentFrame}
 
 -- one form and the other
@@ -45,27 +46,31 @@ NoEvent x = x .event ≡ none
 abbrev pub OtherFormNeverShown : Type 0
 OtherFormNeverShown =
     (form told : ℕ) → Differ form told
-    → (dialog : ℕ) (xs : List (Content Event)) → All (Valid Event) xs → length (contentFrame form Event dialog xs) ≤ longestFrame
+    → (dialog : ℕ) (xs : List (Content Event)) → All (Valid Event) xs
     → All NoEvent (readElements told (contentFrame form Event dialog xs) Event .elements)
 
--- ---- what has no event is the same in both forms
+-- is an event told?
+abbrev pub tellsEvent : {kind : Kind} → Content kind → Bool
+tellsEvent (statusOnly token ty status) = false
+tellsEvent (loggedEvent token x) = true
+tellsEvent (keptUnread token ty o) = false
+tellsEvent (withSubelements token ty status ps) = false
 
--- no event is told
-abbrev pub tellsNone : {kind : Kind} → Content kind → Bool
-tellsNone (statusOnly token ty status) = true
-tellsNone (loggedEvent token x) = false
-tellsNone (keptUnread token ty o) = true
-tellsNone (withSubelements token ty status ps) = true
+-- said more exactly: a frame in which one is told is refused by 17
+abbrev pub OtherFrameRefused : Type 0
+OtherFrameRefused =
+    (form told : ℕ) → Differ form told
+    → (dialog : ℕ) (xs : List (Content Event)) → All (Valid Event) xs → any tellsEvent xs ≡ true → length (contentFrame form Event dialog xs) ≤ longestFrame
+    → (d : List ℕ) → isGroup d ≡ false → readReport told d (contentFrame form Event dialog xs) .refusal .number ≡ badReportBody
 
-abbrev pub TellsNone : {kind : Kind} → Content kind → Type 0
-TellsNone x = tellsNone x ≡ true
-
-pub record SameInBothForms (form told : ℕ) : Type 0 where
-  -- a diagnostic report frame is read the same
+-- and all else is the same in both forms: diagnostics are read the same; where no event is told, contents and frames have the same octets, and
+-- are read the same
+pub record Same (form told : ℕ) : Type 0 where
   pub diagnostics : (s : List ℕ) → readElements form s Diagnostic ≡ readElements told s Diagnostic
-  -- contents with no event have the same octets, and so have their frames
-  pub octets : {kind : Kind} (x : Content kind) → TellsNone x → contentOctets form kind x ≡ contentOctets told kind x
-  pub frame : {kind : Kind} (dialog : ℕ) (xs : List (Content kind)) → All TellsNone xs → contentFrame form kind dialog xs ≡ contentFrame told kind dialog xs
-  -- which are read the same
-  pub events : (dialog : ℕ) (xs : List (Content Event)) → All (Valid Event) xs → All TellsNone xs
+  pub octets : (kind : Kind) (x : Content kind) → tellsEvent x ≡ false → contentOctets form kind x ≡ contentOctets told kind x
+  pub frames : (kind : Kind) (dialog : ℕ) (xs : List (Content kind)) → any tellsEvent xs ≡ false → contentFrame form kind dialog xs ≡ contentFrame told kind dialog xs
+  pub events : (dialog : ℕ) (xs : List (Content Event)) → All (Valid Event) xs → any tellsEvent xs ≡ false
       → readElements form (contentFrame form Event dialog xs) Event ≡ readElements told (contentFrame form Event dialog xs) Event
+
+abbrev pub SameInBothForms : Type 0
+SameInBothForms = (form told : ℕ) → Same form told
