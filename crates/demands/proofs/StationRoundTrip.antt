@@ -75,7 +75,6 @@ module _ {R : Type 0} (i : List ℕ) (cs : List Call) (g : Station) (kind : Kind
         truthful = all-weaken (λ x p. p .1) (filled .contents) (filled .good);
         valid = all-weaken (λ x p. p .0) (filled .contents) (filled .good);
         follows = follows;
-        short = omega (arith, frame-fits few);
         whole = ap length t ∙ l;
         wrote = t ∙ frame-is;
         read = λ d single. rw (t, frame-is) (report-round-trip (r .form) follows kind dialog (filled .contents) (all-weaken (λ x p. p .0) (filled .contents) (filled .good)) (rw frame-is at (frame-fits few)) d single);
@@ -147,7 +146,7 @@ pub never-shown : (i : List ℕ) (cs : List Call) (g : Station) (a : Address) (n
 unfolding formIn
 never-shown i cs g a n buffer x told differ =
     let d : Differ (x .requester .form) told = rw (x .found) at differ in
-    rw (x .wrote) (other-form-never-shown (x .requester .form) told d (x .dialog) (x .contents) (x .valid) (rw (← x .wrote) (omega (arith, x .whole, x .short))))
+    rw (x .wrote) (other-form-never-shown (x .requester .form) told d (x .dialog) (x .contents) (x .valid))
 
 pub station-never-shown : StationNeverShown
 station-never-shown most i l cs whole t a b n e = never-shown i cs _ a n _ (station-round-trip most i l cs whole t a Event b n e)

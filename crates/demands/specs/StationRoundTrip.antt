@@ -1,7 +1,7 @@
 -- Demand 2 for reports: what a report call writes, the report reader reads back to what was logged and set up. One claim about every list
 -- of calls from setup on; its proof is in proofs/StationRoundTrip.antt.
 -- Assumes nothing.
-use Prim.Native.Nat.{ℕ, _≤_}
+use Prim.Native.Nat.{ℕ}
 use mathlib.Core.Path.{_≡_}
 use mathlib.Core.Bool.{true, false}
 use mathlib.Core.List.{List, [], _∷_}
@@ -11,7 +11,7 @@ use Rattle.laws.specs.Members.{Among, All}
 use Rattle.units.specs.Time.{elapsedSince}
 use Rattle.octets.specs.declared.numbers.Kind.{Kind}
 use Rattle.octets.specs.declared.numbers.Kind.the-variants.{Event, Diagnostic}
-use Rattle.octets.specs.Numbers.{successful, longestFrame}
+use Rattle.octets.specs.Numbers.{successful}
 use Rattle.octets.specs.Addresses.{isGroup}
 use Rattle.octets.specs.Elements.{subelements}
 use Rattle.events.specs.declared.Entry.{Entry}
@@ -66,7 +66,6 @@ pub record RoundTrip (i : List ℕ) (cs : List Call) (g : Station) (a : Address)
   pub truthful : All (Truthful i cs (g .log) kind) contents
   pub valid : All (Valid kind) contents
   pub follows : isForm (requester .form) ≡ true
-  pub short : n ≤ longestFrame
   pub whole : length (take n buffer) ≡ n
   pub wrote : take n buffer ≡ contentFrame (requester .form) kind dialog contents
   pub read : (d : Address) → isGroup d ≡ false → ReadAs (requester .form) d (take n buffer) kind dialog contents
