@@ -31,7 +31,7 @@ good-time-requires c κs = search needs
 
 returns : tie.Need-returns
 unfolding goodTimeAt if_then_else_
-returns c = 
+returns c =
     let a = c .before .before .before .before .before .args in
     let t = c .before .time-at .ensures ∙ time-part (a .s .now) (a .at) (a .at + 9 - a .at) (omega arith) in
     rw (c .before .before .before .if1 .taken, ← t) (c .good-time .ensures)

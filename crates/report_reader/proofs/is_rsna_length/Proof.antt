@@ -28,7 +28,7 @@ add-result : tie.Need-add-result
 add-result c = search needs
 
 returns-2 : tie.Need-returns-2
-returns-2 c = 
+returns-2 c =
     let t = c .before .before .time-length .result in
     let n = c .before .rsna-length .result in
     let e : 3 + t + n + 22 ≡ 3 + t + (n + 22) = omega arith in

@@ -46,7 +46,7 @@ refused-report-requires-3 c κs = search needs
 
 returns-3 : tie.Need-returns-3
 unfolding readReport if_then_else_
-returns-3 c = 
+returns-3 c =
     let kind = c .before .before .before .before .frame-kind .ensures ∙ ap (frameKind _) (c .before .before .before .before .before .report-action .ensures) in
     rw (← c .before .before .before .before .before .before .before .before .before .is-form .ensures, c .before .before .before .before .before .before .before .before .if1 .left, ← c .before .before .before .before .before .before .before .is-group .ensures, c .before .before .before .before .before .before .if2 .left, ← kind, ← c .before .before .before .report-action2 .ensures, ← c .before .before .frame-cause .ensures, ne-eqb _ _ (c .before .if3 .taken)) (c .refused-report3 .ensures)
 
@@ -64,13 +64,13 @@ validated-requires-2 c κs = search needs
 
 returns-4 : tie.Need-returns-4
 unfolding readReport if_then_else_
-returns-4 c = 
+returns-4 c =
     let kind = c .before .before .before .before .before .before .frame-kind .ensures ∙ ap (frameKind _) (c .before .before .before .before .before .before .before .report-action .ensures) in
     rw (← c .before .before .before .before .before .before .before .before .before .before .before .is-form .ensures, c .before .before .before .before .before .before .before .before .before .before .if1 .left, ← c .before .before .before .before .before .before .before .before .before .is-group .ensures, c .before .before .before .before .before .before .before .before .if2 .left, ← kind, ← c .before .before .before .before .before .report-action2 .ensures, ← c .before .before .before .before .frame-cause .ensures, eq-eqb _ _ (c .before .before .before .if3 .left), c .before .enum-told .given .1) (c .validated .ensures)
 
 returns-5 : tie.Need-returns-5
 unfolding readReport if_then_else_
-returns-5 c = 
+returns-5 c =
     let kind = c .before .before .before .before .before .before .frame-kind .ensures ∙ ap (frameKind _) (c .before .before .before .before .before .before .before .report-action .ensures) in
     rw (← c .before .before .before .before .before .before .before .before .before .before .before .is-form .ensures, c .before .before .before .before .before .before .before .before .before .before .if1 .left, ← c .before .before .before .before .before .before .before .before .before .is-group .ensures, c .before .before .before .before .before .before .before .before .if2 .left, ← kind, ← c .before .before .before .before .before .report-action2 .ensures, ← c .before .before .before .before .frame-cause .ensures, eq-eqb _ _ (c .before .before .before .if3 .left), c .before .enum-told2 .given .1) (c .validated2 .ensures)
 

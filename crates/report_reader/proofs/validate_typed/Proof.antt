@@ -30,7 +30,7 @@ add-good-time-at : tie.Need-add-good-time-at
 add-good-time-at c = search needs
 
 good-time-at-requires : tie.Need-good-time-at-requires
-good-time-at-requires c κs = 
+good-time-at-requires c κs =
     let a = c .before .before .before .before .args in
     omega (arith, event-least (a .form) (a .s .now) (a .at) (a .n) _ (sym (c .before .is-event-length .ensures) ∙ not-false _ (c .if1 .left)))
 
@@ -39,7 +39,7 @@ refused-requires-2 c κs = search needs
 
 returns-2 : tie.Need-returns-2
 unfolding typedStep if_then_else_
-returns-2 c = 
+returns-2 c =
     rw (ne-eqb _ 3 (c .before .before .before .before .before .before .before .pre .0), ← c .before .before .before .before .is-event-length .ensures, c .before .before .before .if1 .left, ← c .before .before .good-time-at .ensures, c .before .if2 .taken) (c .refused2 .ensures)
 
 logged-requires : tie.Need-logged-requires
@@ -47,7 +47,7 @@ logged-requires c κs = search needs
 
 returns-3 : tie.Need-returns-3
 unfolding typedStep if_then_else_
-returns-3 c = 
+returns-3 c =
     let a = c .before .before .before .before .before .before .before .args in
     rw (ne-eqb _ 3 (c .before .before .before .before .before .before .before .pre .0), ← c .before .before .before .before .is-event-length .ensures, c .before .before .before .if1 .left, ← c .before .before .good-time-at .ensures, c .before .if2 .left) (c .logged .ensures (a .s .now) (a .at) (a .n) (c .before .before .before .before .before .before .before .pre .2))
 

@@ -19,7 +19,7 @@ step-of-requires c κs = let a = c .before .before .before .before .args in refu
 
 returns : tie.Need-returns
 unfolding cursorStep if_then_else_
-returns c = 
+returns c =
     let a = c .before .before .before .before .before .args in
     rw (← c .before .before .before .is-form .ensures, c .before .before .if1 .taken) (c .step-of .ensures ∙ rw (c .before .refused .ensures) (refused-told (a .s .now) (a .self .at) 15 0))
 
@@ -31,7 +31,7 @@ step-of-requires-2 c κs = let a = c .before .before .before .before .args in st
 
 returns-2 : tie.Need-returns-2
 unfolding cursorStep if_then_else_
-returns-2 c = 
+returns-2 c =
     let a = c .before .before .before .before .before .args in
     rw (← c .before .before .before .is-form .ensures, c .before .before .if1 .left) (c .step-of2 .ensures ∙ rw (c .before .validate-at .ensures) (step-told (a .form) (a .s .now) (a .kind) (a .self .at)))
 

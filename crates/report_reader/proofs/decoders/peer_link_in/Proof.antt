@@ -34,7 +34,7 @@ status-of-requires c κs = search needs
 
 returns : tie.Need-returns
 unfolding peerLinkIn
-returns c = 
+returns c =
     rw (← c .before .before .before .before .before .before .before .before .time-length .ensures .0, c .before .before .before .before .before .before .times-in .ensures, c .before .before .before .before .before .peer-of .ensures, c .before .before .before .before .class-of .ensures, c .before .before .before .channel-of .ensures, c .before .before .power-of .ensures, c .before .connection-of .ensures, c .status-of .ensures, c .before .before .before .before .before .before .before .behind .ensures)
 
 pub peer-link-in-spec : {M : Type 1} → statement M

@@ -37,7 +37,7 @@ result-of-requires c κs = search needs
 
 returns : tie.Need-returns
 unfolding rsnaIn
-returns c = 
+returns c =
     rw (← c .before .before .before .before .before .before .before .before .before .before .time-length .ensures .0, c .before .before .before .before .times-in .ensures, c .before .before .before .target-of .ensures, c .before .before .authentication-of .ensures, c .before .method-of .ensures, c .result-of .ensures, c .before .before .before .before .before .before .read-at .ensures, c .before .before .before .before .before .before .before .before .rsn-of .ensures, c .before .before .before .before .before .before .before .before .before .behind .ensures)
 
 pub rsna-in-spec : {M : Type 1} → statement M

@@ -34,7 +34,7 @@ signals-of-requires c κs = search needs
 
 returns : tie.Need-returns
 unfolding transitionIn
-returns c = 
+returns c =
     rw (← c .before .before .before .before .before .before .before .before .time-length .ensures .0, c .before .before .before .before .before .before .times-in .ensures, c .before .before .before .before .before .source-of .ensures, c .before .before .before .before .target-of .ensures, c .before .before .before .took-of .ensures, c .before .before .reason-of .ensures, c .before .result-of .ensures, c .signals-of .ensures, c .before .before .before .before .before .before .before .behind .ensures)
 
 pub transition-of-spec : {M : Type 1} → statement M
