@@ -29,7 +29,7 @@ same-length c = search needs
 
 returns : tie.Need-returns
 unfolding inputListing if_then_else_
-returns c = 
+returns c =
     rw (← c .before .before .before .before .before .before .before .octet .ensures, ← c .before .before .before .before .before .before .is-form .ensures, c .before .before .before .before .before .if1 .taken) (at-most reportListingMost (omega arith) (short (rw (c .before .before .before .new .ensures) at (c .before .before .put-refusal .ensures))))
 
 new-requires-2 : tie.Need-new-requires-2
@@ -43,7 +43,7 @@ same-length-2 c = search needs
 
 returns-2 : tie.Need-returns-2
 unfolding inputListing if_then_else_
-returns-2 c = 
+returns-2 c =
     rw (← c .before .before .before .before .before .before .before .before .octet .ensures, ← c .before .before .before .before .before .before .before .is-form .ensures, c .before .before .before .before .before .before .if1 .left, lt-ltb _ _ (c .before .before .before .before .before .if2 .taken)) (at-most reportListingMost (omega arith) (short (rw (c .before .before .before .new2 .ensures) at (c .before .before .put-refusal2 .ensures))))
 
 address-at-requires : tie.Need-address-at-requires
@@ -66,7 +66,7 @@ same-length-3 c = search needs
 
 returns-3 : tie.Need-returns-3
 unfolding inputListing if_then_else_
-returns-3 c = 
+returns-3 c =
     let s = c .before .before .before .before .before .before .before .before .before .before .before .before .args .input .now in
     rw (← c .before .before .before .before .before .before .before .before .before .octet .ensures, ← c .before .before .before .before .before .before .before .before .is-form .ensures, c .before .before .before .before .before .before .before .if1 .left, le-ltb _ _ (c .before .before .before .before .before .before .if2 .left), ← c .before .before .before .before .address-at .ensures) (rw (take-all (length s - 7) (drop 7 s) (omega (arith, length-drop 7 s))) at (c .before .before .put-listing .ensures))
 

@@ -42,7 +42,7 @@ same-length c = search needs
 
 returns : tie.Need-returns
 unfolding publishedText
-returns c = 
+returns c =
     let t = c .before .before .before .before .before .before .before .before .before .before .before .before .before .before .before .before .before .before .before .before .before .before .args .t in
     let tsf : length (t .tsf) ≡ 8 = search (needs, c .before .before .before .before .before .before .before .before .before .before .before .before .before .before .before .before .before .before .before .before .before .before .good) in
     let offset : length (t .offset) ≡ 10 = search (needs, c .before .before .before .before .before .before .before .before .before .before .before .before .before .before .before .before .before .before .before .before .before .before .good) in

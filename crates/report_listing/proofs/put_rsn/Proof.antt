@@ -28,7 +28,7 @@ array-share-prefix-rsn : tie.Need-array-share-prefix-rsn
 array-share-prefix-rsn c = search needs
 
 slice-aggregate-put-bare-2 : tie.Need-slice-aggregate-put-bare-2
-slice-aggregate-put-bare-2 c = 
+slice-aggregate-put-bare-2 c =
     let l : length (c .before .before .before .before .before .before .args .t3) ≡ rsnLength = search needs in
     sym (length-take-le _ _ (omega (arith, l, c .before .before .before .least .ensures)))
 
@@ -40,7 +40,7 @@ same-length c = search needs
 
 returns-2 : tie.Need-returns-2
 unfolding rsnText if_then_else_
-returns-2 c = 
+returns-2 c =
     let a = c .before .before .before .before .before .before .before .before .before .args in
     let l : length (a .t3) ≡ rsnLength = search needs in
     let n = c .before .before .before .before .before .before .least .result in
