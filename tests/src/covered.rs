@@ -617,6 +617,11 @@ impl Covered {
         if number == 14 {
             return self.saw_kind(*ty, "wrong time when read (14)");
         }
+        let of_the_other_form =
+            EventTime::at_front(form.other(), rest).is_some_and(|(_, own)| EventBody::of(*ty, own).is_some());
+        if of_the_other_form {
+            return;
+        }
         self.saw_kind(*ty, "wrong body (17)");
         if form == Form::Draft && rest.first_chunk().is_some_and(|time| !time_is_good(time)) {
             self.saw_kind(*ty, "wrong body and wrong time (17)");

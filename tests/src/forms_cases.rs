@@ -290,6 +290,15 @@ fn reading_cases() -> Vec<Case> {
     cases
 }
 
+/// The first octet of an EAP method of 8 in a body of 38, and one of 1 in a body of 45.
+fn expanded_in_38() -> String {
+    RSNA_38.replace("ac010d11", "ac01fe11")
+}
+
+fn legacy_in_45() -> String {
+    RSNA_45.replace("ac01fe00", "ac010d00")
+}
+
 /// Frames that are the same in both forms, and faults of form 1.
 fn other_readings() -> Vec<Case> {
     let mut cases = Vec::new();
@@ -306,9 +315,7 @@ fn other_readings() -> Vec<Case> {
         let line = "report 3 dialog 7 elements 1\nelement 81 token 5 type 1 status 2 subs 1";
         cases.push(read_case("a diagnostic, either form", diagnostic, line));
     }
-    // The EAP method stands at 36 of the body: 254 in 38, 13 in 45. At 22 is the error's second octet.
-    let expanded_in_38 = RSNA_38.replace("ac010d11", "ac01fe11");
-    let legacy_in_45 = RSNA_45.replace("ac01fe00", "ac010d00");
+    // The EAP method stands at 36 of the body. At 22, where form 0 has it, is the error's second octet.
     let error_of_254 = RSNA_38.replace("c1c2c3", "c1fec3");
     let line = format!(
         "report 1 dialog 7 elements 1\nelement 79 token 5 type 1 status 0 tsf a1a2a3a4a5a6a7a8 offset \
@@ -319,8 +326,8 @@ fn other_readings() -> Vec<Case> {
     // Status 1 has no event in either form.
     let failed = TRANSITION.replace("4f2f050000", "4f2f050001");
     cases.extend([
-        read_case("EAP 254 in a body of 38: 17", input(1, &expanded_in_38), "refused 17 at 3"),
-        read_case("EAP 13 in a body of 45: 17", input(1, &legacy_in_45), "refused 17 at 3"),
+        read_case("EAP 254 in a body of 38: 17", input(1, &expanded_in_38()), "refused 17 at 3"),
+        read_case("EAP 13 in a body of 45: 17", input(1, &legacy_in_45()), "refused 17 at 3"),
         read_case("254 where form 0 has the EAP method", input(1, &error_of_254), &line),
         read_case("a transition of 48: 17", input(1, &one_more), "refused 17 at 3"),
         read_case("a transition of 46: 17", input(1, &one_less[..one_less.len() - 2]), "refused 17 at 3"),
@@ -367,6 +374,8 @@ fn reading_records() -> Case {
         .answered(read(2, TRANSITION), "refused 15 at 0")
         .answered(read(0, TRANSITION), "refused 17 at 3")
         .answered(read(1, DRAFT_TRANSITION), "refused 17 at 3")
+        .answered(read(1, &expanded_in_38()), "refused 17 at 3")
+        .answered(read(1, &legacy_in_45()), "refused 17 at 3")
         .answered(read(1, ""), "report 1 dialog 7 elements 0")
         .answered(Record::Read { form: 2, destination: [1; 6], octets: Vec::new() }, "refused 15 at 0")
         .answered(Record::Read { form: 1, destination: [1; 6], octets: Vec::new() }, "refused 11 at 0")

@@ -148,12 +148,13 @@ impl Tally {
         .into();
         for (form, form_name) in FORMS.iter().enumerate() {
             for (ty, kind) in KINDS.iter().enumerate() {
-                let first = format!("frames of the {form_name} form, first a {kind}, refused in the other");
                 named.push((format!("{kind}s of the {form_name} form read back"), &self.events[ty][form]));
-                named.push((first, &self.refused_in_the_other[ty][form]));
+                let refused =
+                    format!("frames of the {form_name} form refused in the other, first event: {kind}");
+                named.push((refused, &self.refused_in_the_other[ty][form]));
             }
-            let none = format!("frames of the {form_name} form without event, the same in the other");
-            named.push((none, &self.same_in_the_other[form]));
+            let same = format!("frames of the {form_name} form without event, the same in the other");
+            named.push((same, &self.same_in_the_other[form]));
         }
         for (name, count) in &named {
             println!("{name}: {}", count.number());
