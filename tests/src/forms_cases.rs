@@ -163,6 +163,38 @@ fn carried_unread() -> Case {
     told(script, OTHER, 0, &[&ones, &zeros]).case("the nine octets are checked, the others carried")
 }
 
+/// Of 66 events of a kind, each with fields of its own, the log keeps the last 64, each with its own. In 2,304 octets
+/// so many of the kind fit a frame: 46 transitions of 49, 57 RSNA events of 40, or 56 peer links of 41.
+fn own_fields(ty: u8, fit: usize) -> Case {
+    let logged = |script: Script, number: u8| {
+        let fields = PublishedTime { tsf: [number; 8], offset: [number; 10], error: [number; 5] };
+        let mut record = numbered(10, ty, number);
+        match &mut record {
+            Record::Log { logging, .. } => logging.published = fields,
+            Record::LogRsna { logging, .. } => logging.published = fields,
+            Record::LogPeerLink { logging, .. } => logging.published = fields,
+            _ => unreachable!("a logging"),
+        }
+        script.accepted(record)
+    };
+    let element = |number: u8| {
+        let time = format!("{number:02x}").repeat(23);
+        match ty {
+            0 => format!("4f2f050000{time}0201010101010201010101020000{number:02x}000031323334"),
+            1 => format!("4f26050100{time}020101010102000fac010d{number:02x}"),
+            _ => format!("4f27050200{time}020101010101510614010203{number:02x}"),
+        }
+    };
+    let given: Vec<String> = (3..=66).rev().map(element).collect();
+    let (first, second) = given.split_at(fit);
+    let script = (1..=66).fold(Script::set_up(setup_of(&BOTH)), logged);
+    asked_by(script, OTHER, ty)
+        .gives_to(OTHER, 7, 2304, &[first.to_vec()])
+        .gives_to(OTHER, 7, 2304, &[second.to_vec()])
+        .report(OTHER, Kind::Event, LEAST, "nothing", "")
+        .case("a full log, each event with fields of its own")
+}
+
 /// The three calls that carry a list.
 fn calls(list: &[Console]) -> [Record; 3] {
     let (reading, list) = (10, list.to_vec());
@@ -385,6 +417,7 @@ fn reading_records() -> Case {
 /// Every case.
 pub fn forms_cases() -> Vec<Case> {
     let mut cases = one_gate_two_forms();
+    cases.extend([own_fields(0, 46), own_fields(1, 57), own_fields(2, 56)]);
     cases.extend([without_events(), room(), carried_unread(), reading_records()]);
     cases.extend([refused_lists(), renamed(), reading_cases(), other_readings(), short_inputs()].concat());
     cases

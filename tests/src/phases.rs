@@ -190,12 +190,17 @@ pub fn request_frames(random: &mut Random, number: usize) -> Made {
     made
 }
 
-/// So many report frames, and questions to a gate that logged nothing.
+/// So many report frames, at times cut before their destination's end where they stand alone, and questions to a gate
+/// that logged nothing.
 pub fn report_frames(random: &mut Random, number: usize) -> Made {
     let mut made = Made::default();
     for _ in 0..number {
         let MadeReport { told: form, destination, octets } = report_frame(random);
-        made.alone.push([&[form], &destination[..], &octets].concat());
+        let mut alone = [&[form], &destination[..], &octets].concat();
+        if random.percent(4) {
+            alone.truncate(random.between(0, 7));
+        }
+        made.alone.push(alone);
         made.records.push(write_record(&Record::Read { form, destination, octets }));
         if random.percent(5) {
             made.records.push(write_record(&Record::Explain(question(random, &[], 50))));
