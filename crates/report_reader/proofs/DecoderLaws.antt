@@ -1,20 +1,25 @@
--- Laws of the decoders: what stands behind so many octets, and that a transition is read of the first 30.
+-- Laws of the decoders: what stands behind so many octets; so many from the front; and that a transition is read of as many as it has
+-- with its time fields.
 -- Assumes nothing.
 use Prim.Native.Nat.{ℕ, zero, suc, _+_, _-_, _≤_, _<_, min}
 use mathlib.Core.Path.{_≡_, refl, sym, ap, _∙_}
 use mathlib.Core.Bool.{Bool, true, false}
-use mathlib.Core.List.{List, [], _∷_, _++_}
-use native.Mathlib.Nat.{zero-add}
+use mathlib.Core.List.{List, [], _∷_, _++_, append-nil}
+use native.Mathlib.Nat.{zero-add, add-zero}
 use native.Mathlib.Omega.{arith}
-use lib.Dec.{leb}
-use lib.ListN.{length, getD, take, drop, length-drop, drop-of-length-le}
+use lib.Dec.{leb, eqb}
+use lib.ListN.{length, getD, take, drop, length-append, length-drop, drop-of-length-le}
 use lib.Seq.{take-all, getD-drop}
 use borrow.Author.Tests.{leb-true, leb-false}
+use Rattle.laws.specs.Choice.{if_then_else_}
 use Rattle.laws.specs.Buffers.{WrittenBuffer, wrote, putAt}
 use Rattle.laws.proofs.Buffers.{put-at-fits}
 use Rattle.octets.specs.Fields.{octetsAt}
-use Rattle.octets.proofs.PlaceLaws.{octets-length, octet-within}
-use Rattle.report_reader.specs.Decoders.{transitionIn}
+use Rattle.octets.specs.Times.{timeAt}
+use Rattle.octets.proofs.PlaceLaws.{octets-stand}
+use Rattle.events.specs.Times.{draft, draftLength, publishedLength, timeLength}
+use Rattle.events.specs.Transitions.{transitionLength}
+use Rattle.report_reader.specs.Decoders.{draftTimes, publishedTimes, timesIn, transitionIn}
 
 pub rest-behind : (o : List ℕ) (n from : ℕ) → from ≡ min n (length o) → take (length o - from) (drop from o) ≡ drop n o
 rest-behind o n from e = take-all (length o - from) (drop from o) (omega (arith, length-drop from o)) ∙ go (leb n (length o)) refl
@@ -39,20 +44,15 @@ module _ (x y : List ℕ) (m : ℕ) (same : (k : ℕ) → k < m → getD x k 0 �
   same-behind : (n k : ℕ) → n + k < m → getD (drop n x) k 0 ≡ getD (drop n y) k 0
   same-behind n k h = getD-drop n x k 0 ∙ same (n + k) h ∙ sym (getD-drop n y k 0)
 
-module _ (x y : List ℕ) (same : (k : ℕ) → k < 30 → getD x k 0 ≡ getD y k 0) where
-  body-same : (k : ℕ) → k < 21 → getD (drop 9 x) k 0 ≡ getD (drop 9 y) k 0
-  body-same k h = same-behind x y 30 same 9 k (omega arith)
+-- ---- so many octets from the front: as they stand, or fewer with zeros behind them
 
-  pub transition-same : transitionIn x ≡ transitionIn y
-  unfolding transitionIn
-  transition-same =
-      let f : (n k : ℕ) → k + n ≤ 21 → octetsAt (drop 9 x) k n ≡ octetsAt (drop 9 y) k n = octets-same (drop 9 x) (drop 9 y) 21 body-same in
-      rw (octets-same x y 30 same 9 0 (omega arith), f 6 0 (omega arith), f 6 6 (omega arith), f 4 17 (omega arith), body-same 12 (omega arith), body-same 13 (omega arith), body-same 14 (omega arith), body-same 15 (omega arith), body-same 16 (omega arith))
-
--- ---- so it is read of the first octets, and of fewer with zeros behind them
-
-pub transition-first : (o : List ℕ) → transitionIn (take 30 (drop 0 o)) ≡ transitionIn o
-transition-first o = transition-same _ o (λ k h. octet-within o 30 0 k h ∙ ap (λ (i : ℕ). getD o i 0) (zero-add k))
+octet-of : (s : List ℕ) (n at k : ℕ) → k < n → getD (octetsAt s at n) k 0 ≡ getD s (at + k) 0
+unfolding octetsAt
+octet-of s zero at k h = absurd (omega arith)
+octet-of s (suc n) at zero h = ap (λ (i : ℕ). getD s i 0) (sym (add-zero at))
+octet-of s (suc n) at (suc k) h =
+    let e : at + 1 + k ≡ at + suc k = omega arith in
+    octet-of s n (at + 1) k (omega arith) ∙ ap (λ (i : ℕ). getD s i 0) e
 
 zeros : (n at k : ℕ) → getD (octetsAt [] at n) k 0 ≡ 0
 unfolding octetsAt
@@ -69,8 +69,36 @@ padded-same (x ∷ o) [] h (suc k) =
     ap (λ (r : List ℕ). getD (o ++ r) k 0) (sym e) ∙ padded-same o [] (λ i. refl) k
 padded-same (x ∷ o) (y ∷ z) h (suc k) = padded-same o z (λ i. h (suc i)) k
 
-pub transition-padded : (o z w : List ℕ) (n : ℕ) → z ≡ octetsAt [] 0 30 → length o < 30 → wrote n w ≡ putAt o 0 z → transitionIn w ≡ transitionIn o
-transition-padded o z w n e h does =
-    let size : length z ≡ 30 = ap length e ∙ octets-length [] 30 0 in
+pub first-padded : (o z w : List ℕ) (n m : ℕ) → length z ≡ m → z ≡ octetsAt [] 0 m → length o < m → wrote n w ≡ putAt o 0 z → w ≡ octetsAt o 0 m
+first-padded o z w n m size e h does =
     let is : w ≡ o ++ drop (length o) z = ap (λ (b : WrittenBuffer). b .octets) (does ∙ put-at-fits o 0 z (omega (arith, size, h))) in
-    transition-same w o (λ k _. rw (is, e) (padded-same o (octetsAt [] 0 30) (zeros 30 0) k))
+    let long : length w ≡ m = ap length is ∙ length-append o (drop (length o) z) ∙ omega (arith, length-drop (length o) z) in
+    sym (octets-stand w 0 m w [] long (sym (append-nil w)))
+    ∙ octets-same w o m (λ k _. rw (is, e) (padded-same o (octetsAt [] 0 m) (zeros m 0) k)) m 0 (omega arith)
+
+-- ---- a transition is read of as many as it has with its time fields
+
+module _ (form : ℕ) (x y : List ℕ) (same : (k : ℕ) → k < timeLength form + transitionLength → getD x k 0 ≡ getD y k 0) where
+  times-same : timesIn form x ≡ timesIn form y
+  unfolding timesIn if_then_else_
+  times-same = go (eqb form draft) refl
+    where
+      go : (b : Bool) → timeLength form ≡ (if b then draftLength else publishedLength)
+          → (if b then draftTimes (timeAt x 0) else publishedTimes (octetsAt x 0 8) (octetsAt x 8 10) (octetsAt x 18 5))
+          ≡ (if b then draftTimes (timeAt y 0) else publishedTimes (octetsAt y 0 8) (octetsAt y 8 10) (octetsAt y 18 5))
+      go true t = rw (octets-same x y _ same 9 0 (omega (arith, t)))
+      go false t = rw (octets-same x y _ same 8 0 (omega (arith, t)), octets-same x y _ same 10 8 (omega (arith, t)), octets-same x y _ same 5 18 (omega (arith, t)))
+
+  body-same : (k : ℕ) → k < transitionLength → getD (drop (timeLength form) x) k 0 ≡ getD (drop (timeLength form) y) k 0
+  body-same k h = same-behind x y _ same (timeLength form) k (omega arith)
+
+  transition-same : transitionIn form x ≡ transitionIn form y
+  unfolding transitionIn
+  transition-same =
+      let n : ℕ = timeLength form in
+      let f : (m k : ℕ) → k + m ≤ 21 → octetsAt (drop n x) k m ≡ octetsAt (drop n y) k m = octets-same (drop n x) (drop n y) 21 body-same in
+      rw (times-same, f 6 0 (omega arith), f 6 6 (omega arith), f 4 17 (omega arith), body-same 12 (omega arith), body-same 13 (omega arith), body-same 14 (omega arith), body-same 15 (omega arith), body-same 16 (omega arith))
+
+pub transition-first : (form : ℕ) (o : List ℕ) (n : ℕ) → n ≡ timeLength form + transitionLength → transitionIn form (octetsAt o 0 n) ≡ transitionIn form o
+transition-first form o n e =
+    transition-same form _ o (λ k h. octet-of o n 0 k (omega (arith, e, h)) ∙ ap (λ (i : ℕ). getD o i 0) (zero-add k))
