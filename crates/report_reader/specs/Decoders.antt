@@ -27,9 +27,13 @@ publishedTimes tsf offset error = record { time = replicate draftLength 0; tsf =
 unfoldable pub timesIn : ℕ → List ℕ → Times
 timesIn form o = byForm form (draftTimes (timeAt o 0)) (publishedTimes (octetsAt o 0 8) (octetsAt o 8 10) (octetsAt o 18 5))
 
+-- behind them stands the event's body
+abbrev pub bodyIn : ℕ → List ℕ → List ℕ
+bodyIn form o = drop (timeLength form) o
+
 unfoldable pub transitionIn : ℕ → List ℕ → TransitionReport
 transitionIn form o =
-    let body = drop (timeLength form) o in
+    let body = bodyIn form o in
     record {
       times = timesIn form o;
       source = sourceOf body;
@@ -43,7 +47,7 @@ transitionIn form o =
 -- the RSN element in its 22 places, and how many octets it has: none where it is absent
 unfoldable pub rsnaIn : ℕ → List ℕ → RsnaReport
 rsnaIn form o =
-    let body = drop (timeLength form) o in
+    let body = bodyIn form o in
     record {
       times = timesIn form o;
       target = rsnaTargetOf body;
@@ -56,7 +60,7 @@ rsnaIn form o =
 
 unfoldable pub peerLinkIn : ℕ → List ℕ → PeerLinkReport
 peerLinkIn form o =
-    let body = drop (timeLength form) o in
+    let body = bodyIn form o in
     record {
       times = timesIn form o;
       peer = peerOf body;

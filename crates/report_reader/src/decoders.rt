@@ -23,7 +23,7 @@ ghost use Prim.Native.Nat.{_<_};
 ghost use lib.ListN.{length, drop};
 ghost use Rattle.octets.specs.Fields.{octetsAt};
 ghost use Rattle.events.specs.RsnaEvents.{rsnElementOf};
-ghost use Rattle.report_reader.specs.Decoders.{timesIn, transitionIn, rsnaIn, peerLinkIn};
+ghost use Rattle.report_reader.specs.Decoders.{bodyIn, timesIn, transitionIn, rsnaIn, peerLinkIn};
 
 // The octets of a transition with its time fields, in each form.
 const DRAFT_TRANSITION: usize = DRAFT_LENGTH + transitions::TRANSITION_LENGTH;
@@ -76,6 +76,13 @@ fn behind(o: &[u8], n: usize) -> &[u8]
     &o[from..]
 }
 
+// The event's body, behind its time fields.
+fn body_in(form: u8, o: &[u8]) -> &[u8]
+    ensures { λ r. ⌜ now r ≡ bodyIn form (now (o .entry)) ⌝ }
+{
+    behind(o, time_length(form))
+}
+
 // The time fields in a form.
 fn times_in(form: u8, o: &[u8]) -> Times
     ensures { λ r. ⌜ r ≡ timesIn form (now (o .entry)) ⌝ }
@@ -105,7 +112,7 @@ fn times_in(form: u8, o: &[u8]) -> Times
 fn transition_of(form: u8, o: &[u8]) -> TransitionReport
     ensures { λ r. ⌜ r ≡ transitionIn form (now (o .entry)) ⌝ }
 {
-    let body = behind(o, time_length(form));
+    let body = body_in(form, o);
     TransitionReport {
         times: times_in(form, o),
         source: transitions::source_of(body),
@@ -164,7 +171,7 @@ fn rsn_of(body: &[u8]) -> &[u8]
 pub fn rsna_in(form: u8, o: &[u8]) -> RsnaReport
     ensures { λ r. ⌜ r ≡ rsnaIn form (now (o .entry)) ⌝ }
 {
-    let body = behind(o, time_length(form));
+    let body = body_in(form, o);
     let element = rsn_of(body);
     let mut rsn = [0u8; RSN_LENGTH];
     read_at(element, 0, &mut rsn);
@@ -182,7 +189,7 @@ pub fn rsna_in(form: u8, o: &[u8]) -> RsnaReport
 pub fn peer_link_in(form: u8, o: &[u8]) -> PeerLinkReport
     ensures { λ r. ⌜ r ≡ peerLinkIn form (now (o .entry)) ⌝ }
 {
-    let body = behind(o, time_length(form));
+    let body = body_in(form, o);
     PeerLinkReport {
         times: times_in(form, o),
         peer: peer_links::peer_of(body),

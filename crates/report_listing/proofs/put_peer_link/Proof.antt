@@ -20,7 +20,9 @@ slice-aggregate-put-colons-2 : tie.Need-slice-aggregate-put-colons-2
 slice-aggregate-put-colons-2 c = search needs
 
 put-colons-requires : tie.Need-put-colons-requires
-put-colons-requires c κs = search needs
+put-colons-requires c κs =
+    let six : length (c .before .before .before .before .before .before .before .before .before .before .before .args .e .peer) ≡ 6 = search (needs, c .before .before .before .before .before .before .before .before .before .before .before .good) in
+    omega (arith, six)
 
 slice-aggregate-put-octet : tie.Need-slice-aggregate-put-octet
 slice-aggregate-put-octet c = search needs

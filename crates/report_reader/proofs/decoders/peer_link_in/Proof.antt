@@ -5,11 +5,8 @@ use borrow.Author.Needs.{needs}
 use Rattle.report_reader.proofs.decoders.peer_link_in.Statement.{statement}
 use Rattle.report_reader.proofs.decoders.peer_link_in.Tie as tie
 
-time-length-requires : tie.Need-time-length-requires
-time-length-requires c κs = search needs
-
-behind-requires : tie.Need-behind-requires
-behind-requires c κs = search needs
+body-in-requires : tie.Need-body-in-requires
+body-in-requires c κs = search needs
 
 times-in-requires : tie.Need-times-in-requires
 times-in-requires c κs = search needs
@@ -35,14 +32,13 @@ status-of-requires c κs = search needs
 returns : tie.Need-returns
 unfolding peerLinkIn
 returns c =
-    rw (← c .before .before .before .before .before .before .before .before .time-length .ensures .0, c .before .before .before .before .before .before .times-in .ensures, c .before .before .before .before .before .peer-of .ensures, c .before .before .before .before .class-of .ensures, c .before .before .before .channel-of .ensures, c .before .before .power-of .ensures, c .before .connection-of .ensures, c .status-of .ensures, c .before .before .before .before .before .before .before .behind .ensures)
+    rw (c .before .before .before .before .before .before .times-in .ensures, c .before .before .before .before .before .peer-of .ensures, c .before .before .before .before .class-of .ensures, c .before .before .before .channel-of .ensures, c .before .before .power-of .ensures, c .before .connection-of .ensures, c .status-of .ensures, c .before .before .before .before .before .before .before .body-in .ensures)
 
 pub peer-link-in-spec : {M : Type 1} → statement M
 peer-link-in-spec =
     tie.close
     (tie.spec
-    time-length-requires
-    behind-requires
+    body-in-requires
     times-in-requires
     peer-of-requires
     class-of-requires

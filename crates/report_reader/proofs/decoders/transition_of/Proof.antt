@@ -5,11 +5,8 @@ use borrow.Author.Needs.{needs}
 use Rattle.report_reader.proofs.decoders.transition_of.Statement.{statement}
 use Rattle.report_reader.proofs.decoders.transition_of.Tie as tie
 
-time-length-requires : tie.Need-time-length-requires
-time-length-requires c κs = search needs
-
-behind-requires : tie.Need-behind-requires
-behind-requires c κs = search needs
+body-in-requires : tie.Need-body-in-requires
+body-in-requires c κs = search needs
 
 times-in-requires : tie.Need-times-in-requires
 times-in-requires c κs = search needs
@@ -35,14 +32,13 @@ signals-of-requires c κs = search needs
 returns : tie.Need-returns
 unfolding transitionIn
 returns c =
-    rw (← c .before .before .before .before .before .before .before .before .time-length .ensures .0, c .before .before .before .before .before .before .times-in .ensures, c .before .before .before .before .before .source-of .ensures, c .before .before .before .before .target-of .ensures, c .before .before .before .took-of .ensures, c .before .before .reason-of .ensures, c .before .result-of .ensures, c .signals-of .ensures, c .before .before .before .before .before .before .before .behind .ensures)
+    rw (c .before .before .before .before .before .before .times-in .ensures, c .before .before .before .before .before .source-of .ensures, c .before .before .before .before .target-of .ensures, c .before .before .before .took-of .ensures, c .before .before .reason-of .ensures, c .before .result-of .ensures, c .signals-of .ensures, c .before .before .before .before .before .before .before .body-in .ensures)
 
 pub transition-of-spec : {M : Type 1} → statement M
 transition-of-spec =
     tie.close
     (tie.spec
-    time-length-requires
-    behind-requires
+    body-in-requires
     times-in-requires
     source-of-requires
     target-of-requires
