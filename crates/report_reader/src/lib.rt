@@ -326,10 +326,10 @@ impl Cursor {
         ensures { λ r. ⌜ r ≡ cursorStep form (now (s .entry)) kind (self .at) ⌝ }
     {
         let at = self.at;
-        if !is_form(form) {
-            return step_of(s, at, refused(causes::BAD_REQUESTER_LIST, 0));
+        if is_form(form) {
+            return step_of(s, at, validate_at(form, s, kind, at));
         }
-        step_of(s, at, validate_at(form, s, kind, at))
+        step_of(s, at, refused(causes::BAD_REQUESTER_LIST, 0))
     }
 }
 
