@@ -382,10 +382,10 @@ pub fn explain_cases() -> Vec<Case> {
     cases
 }
 
-/// The technician's page, with the octets that stand there: the line that it prints, those of the other
+/// The example of docs/REPORTS.md, with the octets that stand there: the line that it prints, those of the other
 /// places, and the report.
 fn technicians_story() -> Vec<Case> {
-    let page = include_str!("technicians_page.md");
+    let page = include_str!("../../docs/REPORTS.md");
     let from = page.find("## Why an event").expect("the page has that part");
     let blocks: Vec<&str> = page[from..].split("```").skip(1).step_by(2).collect();
     let [report, gate, question, _, line] = blocks[..] else { panic!("the page has five blocks there") };
