@@ -1,5 +1,5 @@
--- Laws of the decoders: what stands behind so many octets; so many from the front; and that a transition is read of as many as it has
--- with its time fields.
+-- Laws of the decoders: what stands behind so many octets; so many from the front; and that fields are read of as many as there are up to
+-- their ends.
 -- Assumes nothing.
 use Prim.Native.Nat.{ℕ, zero, suc, _+_, _-_, _≤_, _<_, min}
 use mathlib.Core.Path.{_≡_, refl, sym, ap, _∙_}
@@ -7,19 +7,20 @@ use mathlib.Core.Bool.{Bool, true, false}
 use mathlib.Core.List.{List, [], _∷_, _++_, append-nil}
 use native.Mathlib.Nat.{zero-add, add-zero}
 use native.Mathlib.Omega.{arith}
-use lib.Dec.{leb, eqb}
+use lib.Dec.{leb}
 use lib.ListN.{length, getD, take, drop, length-append, length-drop, drop-of-length-le}
-use lib.Seq.{take-all, getD-drop}
+use lib.Seq.{take-all}
 use borrow.Author.Tests.{leb-true, leb-false}
-use Rattle.laws.specs.Choice.{if_then_else_}
 use Rattle.laws.specs.Buffers.{WrittenBuffer, wrote, putAt}
 use Rattle.laws.proofs.Buffers.{put-at-fits}
 use Rattle.octets.specs.Fields.{octetsAt}
 use Rattle.octets.specs.Times.{timeAt}
 use Rattle.octets.proofs.PlaceLaws.{octets-stand}
-use Rattle.events.specs.Times.{draft, draftLength, publishedLength, timeLength}
+use Rattle.events.specs.declared.times.Times.{Times}
+use Rattle.events.specs.Times.{draftLength, publishedLength}
 use Rattle.events.specs.Transitions.{transitionLength}
-use Rattle.report_reader.specs.Decoders.{draftTimes, publishedTimes, timesIn, transitionIn}
+use Rattle.report_reader.specs.Decoders.{publishedTimes}
+use Rattle.report_reader.specs.Internal.{transitionOf}
 
 pub rest-behind : (o : List ℕ) (n from : ℕ) → from ≡ min n (length o) → take (length o - from) (drop from o) ≡ drop n o
 rest-behind o n from e = take-all (length o - from) (drop from o) (omega (arith, length-drop from o)) ∙ go (leb n (length o)) refl
@@ -40,9 +41,6 @@ module _ (x y : List ℕ) (m : ℕ) (same : (k : ℕ) → k < m → getD x k 0 �
   unfolding octetsAt
   octets-same zero k h = refl
   octets-same (suc n) k h = rw (same k (omega arith), octets-same n (k + 1) (omega arith))
-
-  same-behind : (n k : ℕ) → n + k < m → getD (drop n x) k 0 ≡ getD (drop n y) k 0
-  same-behind n k h = getD-drop n x k 0 ∙ same (n + k) h ∙ sym (getD-drop n y k 0)
 
 -- ---- so many octets from the front: as they stand, or fewer with zeros behind them
 
@@ -76,29 +74,28 @@ first-padded o z w n m size e h does =
     sym (octets-stand w 0 m w [] long (sym (append-nil w)))
     ∙ octets-same w o m (λ k _. rw (is, e) (padded-same o (octetsAt [] 0 m) (zeros m 0) k)) m 0 (omega arith)
 
--- ---- a transition is read of as many as it has with its time fields
+-- ---- fields are read of as many octets as there are up to their ends
 
-module _ (form : ℕ) (x y : List ℕ) (same : (k : ℕ) → k < timeLength form + transitionLength → getD x k 0 ≡ getD y k 0) where
-  times-same : timesIn form x ≡ timesIn form y
-  unfolding timesIn if_then_else_
-  times-same = go (eqb form draft) refl
-    where
-      go : (b : Bool) → timeLength form ≡ (if b then draftLength else publishedLength)
-          → (if b then draftTimes (timeAt x 0) else publishedTimes (octetsAt x 0 8) (octetsAt x 8 10) (octetsAt x 18 5))
-          ≡ (if b then draftTimes (timeAt y 0) else publishedTimes (octetsAt y 0 8) (octetsAt y 8 10) (octetsAt y 18 5))
-      go true t = rw (octets-same x y _ same 9 0 (omega (arith, t)))
-      go false t = rw (octets-same x y _ same 8 0 (omega (arith, t)), octets-same x y _ same 10 8 (omega (arith, t)), octets-same x y _ same 5 18 (omega (arith, t)))
+module _ (o : List ℕ) (m : ℕ) where
+  first-same : (k : ℕ) → k < m → getD (octetsAt o 0 m) k 0 ≡ getD o k 0
+  first-same k h = octet-of o m 0 k h ∙ ap (λ (i : ℕ). getD o i 0) (zero-add k)
 
-  body-same : (k : ℕ) → k < transitionLength → getD (drop (timeLength form) x) k 0 ≡ getD (drop (timeLength form) y) k 0
-  body-same k h = same-behind x y _ same (timeLength form) k (omega arith)
+  octets-first : (n k : ℕ) → k + n ≤ m → octetsAt (octetsAt o 0 m) k n ≡ octetsAt o k n
+  octets-first = octets-same (octetsAt o 0 m) o m first-same
 
-  transition-same : transitionIn form x ≡ transitionIn form y
-  unfolding transitionIn
-  transition-same =
-      let n : ℕ = timeLength form in
-      let f : (m k : ℕ) → k + m ≤ 21 → octetsAt (drop n x) k m ≡ octetsAt (drop n y) k m = octets-same (drop n x) (drop n y) 21 body-same in
-      rw (times-same, f 6 0 (omega arith), f 6 6 (omega arith), f 4 17 (omega arith), body-same 12 (omega arith), body-same 13 (omega arith), body-same 14 (omega arith), body-same 15 (omega arith), body-same 16 (omega arith))
+-- each of what stands in a part p of o
+module _ (o p : List ℕ) where
+  pub draft-first : p ≡ octetsAt o 0 draftLength → timeAt p 0 ≡ timeAt o 0
+  draft-first e = rw e (octets-first o draftLength 9 0 (omega arith))
 
-pub transition-first : (form : ℕ) (o : List ℕ) (n : ℕ) → n ≡ timeLength form + transitionLength → transitionIn form (octetsAt o 0 n) ≡ transitionIn form o
-transition-first form o n e =
-    transition-same form _ o (λ k h. octet-of o n 0 k (omega (arith, e, h)) ∙ ap (λ (i : ℕ). getD o i 0) (zero-add k))
+  pub published-first : p ≡ octetsAt o 0 publishedLength
+      → publishedTimes (octetsAt p 0 8) (octetsAt p 8 10) (octetsAt p 18 5) ≡ publishedTimes (octetsAt o 0 8) (octetsAt o 8 10) (octetsAt o 18 5)
+  published-first e =
+      let f = octets-first o publishedLength in
+      rw (e, f 8 0 (omega arith), f 10 8 (omega arith), f 5 18 (omega arith))
+
+  pub transition-first : (times : Times) → p ≡ octetsAt o 0 transitionLength → transitionOf times p ≡ transitionOf times o
+  transition-first times e =
+      let f = octets-first o transitionLength in
+      let g = first-same o transitionLength in
+      rw (e, f 6 0 (omega arith), f 6 6 (omega arith), f 4 17 (omega arith), g 12 (omega arith), g 13 (omega arith), g 14 (omega arith), g 15 (omega arith), g 16 (omega arith))

@@ -6,6 +6,9 @@ use mathlib.Core.Bool.{false}
 use mathlib.Core.List.{List}
 use lib.ListN.{length, getD}
 use Rattle.laws.specs.Choice.{if_then_else_}
+use Rattle.events.specs.declared.times.Times.{Times}
+use Rattle.events.specs.Transitions.{sourceOf, targetOf, tookOf, reasonOf, resultOf, signalsOf}
+use Rattle.report_reader.specs.declared.decoders.TransitionReport.{TransitionReport}
 use Rattle.report_reader.specs.declared.Element.{Element}
 use Rattle.report_reader.specs.declared.Step.{Step}
 use Rattle.report_reader.specs.declared.Verdict.{Verdict}
@@ -19,6 +22,20 @@ verdictOf t = record { refusal = t .refusal; found = t .found; logged = t .eleme
 -- what it keeps of a reading: of the elements only their number
 abbrev pub walkOf : Reading → Walk
 walkOf x = record { refusal = x .refusal; at = x .at; count = length (x .elements) }
+
+-- ---- a transition by its time fields and its body: transitionIn form o is transitionOf (timesIn form o) (bodyIn form o)
+
+abbrev pub transitionOf : Times → List ℕ → TransitionReport
+transitionOf times body =
+    record {
+      times = times;
+      source = sourceOf body;
+      target = targetOf body;
+      took = record { 0 = tookOf body };
+      reason = reasonOf body;
+      result = resultOf body;
+      signals = signalsOf body;
+    }
 
 -- ---- the fields of what was found at a position
 

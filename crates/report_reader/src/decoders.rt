@@ -22,13 +22,10 @@ ghost use mathlib.Core.List.{[]};
 ghost use Prim.Native.Nat.{_<_};
 ghost use lib.ListN.{length, drop};
 ghost use Rattle.octets.specs.Fields.{octetsAt};
+ghost use Rattle.octets.specs.Times.{timeAt};
 ghost use Rattle.events.specs.RsnaEvents.{rsnElementOf};
-ghost use Rattle.report_reader.specs.Decoders.{bodyIn, timesIn, transitionIn, rsnaIn, peerLinkIn};
-
-// The octets of a transition with its time fields, in each form.
-const DRAFT_TRANSITION: usize = DRAFT_LENGTH + transitions::TRANSITION_LENGTH;
-
-const PUBLISHED_TRANSITION: usize = PUBLISHED_LENGTH + transitions::TRANSITION_LENGTH;
+ghost use Rattle.report_reader.specs.Internal.{transitionOf};
+ghost use Rattle.report_reader.specs.Decoders.{draftTimes, publishedTimes, timesIn, bodyIn, transitionIn, rsnaIn, peerLinkIn};
 
 // A reported transition; the signals are source RCPI, source RSNI, target RCPI and target RSNI. Of an
 // event's time fields those that the form does not carry are 0.
@@ -83,47 +80,6 @@ fn body_in(form: u8, o: &[u8]) -> &[u8]
     behind(o, time_length(form))
 }
 
-// The time fields in a form.
-fn times_in(form: u8, o: &[u8]) -> Times
-    ensures { λ r. ⌜ r ≡ timesIn form (now (o .entry)) ⌝ }
-{
-    let mut tsf = [0u8; 8];
-    let mut offset = [0u8; 10];
-    let mut error = [0u8; 5];
-    if form == DRAFT {
-        return Times {
-            time: time_at(o, 0),
-            tsf,
-            offset,
-            error,
-        };
-    }
-    read_at(o, 0, &mut tsf);
-    read_at(o, 8, &mut offset);
-    read_at(o, 18, &mut error);
-    Times {
-        time: [0u8; DRAFT_LENGTH],
-        tsf,
-        offset,
-        error,
-    }
-}
-
-fn transition_of(form: u8, o: &[u8]) -> TransitionReport
-    ensures { λ r. ⌜ r ≡ transitionIn form (now (o .entry)) ⌝ }
-{
-    let body = body_in(form, o);
-    TransitionReport {
-        times: times_in(form, o),
-        source: transitions::source_of(body),
-        target: transitions::target_of(body),
-        took: transitions::took_of(body),
-        reason: transitions::reason_of(body),
-        result: transitions::result_of(body),
-        signals: transitions::signals_of(body),
-    }
-}
-
 // A slice that is shorter than an array of zeros, with zeros behind it.
 fn pad(o: &[u8], blank: &mut [u8])
     requires { ⌜ now blank ≡ octetsAt [] 0 (length (now blank)) ⌝ }
@@ -146,18 +102,73 @@ fn whole_of<'a>(o: &'a [u8], padded: &'a [u8]) -> &'a [u8]
     &o[..padded.len()]
 }
 
-// In each form the end is tested before all fields: the length of what they are read of is a constant.
+// The draft's time.
+fn draft_times(o: &[u8]) -> Times
+    ensures { λ r. ⌜ r ≡ draftTimes (timeAt (now (o .entry)) 0) ⌝ }
+{
+    Times {
+        time: time_at(o, 0),
+        tsf: [0u8; 8],
+        offset: [0u8; 10],
+        error: [0u8; 5],
+    }
+}
+
+// The published fields.
+fn published_times(o: &[u8]) -> Times
+    ensures { λ r. ⌜ r ≡ publishedTimes (octetsAt (now (o .entry)) 0 8) (octetsAt (now (o .entry)) 8 10) (octetsAt (now (o .entry)) 18 5) ⌝ }
+{
+    let mut tsf = [0u8; 8];
+    let mut offset = [0u8; 10];
+    let mut error = [0u8; 5];
+    read_at(o, 0, &mut tsf);
+    read_at(o, 8, &mut offset);
+    read_at(o, 18, &mut error);
+    Times {
+        time: [0u8; DRAFT_LENGTH],
+        tsf,
+        offset,
+        error,
+    }
+}
+
+// The time fields in a form. The end is tested before all of them: the length of what they are read of is a
+// constant.
+fn times_in(form: u8, o: &[u8]) -> Times
+    ensures { λ r. ⌜ r ≡ timesIn form (now (o .entry)) ⌝ }
+{
+    if form == DRAFT {
+        let mut padded = [0u8; DRAFT_LENGTH];
+        pad(o, &mut padded);
+        return draft_times(whole_of(o, &padded));
+    }
+    let mut padded = [0u8; PUBLISHED_LENGTH];
+    pad(o, &mut padded);
+    published_times(whole_of(o, &padded))
+}
+
+fn transition_of(times: Times, body: &[u8]) -> TransitionReport
+    ensures { λ r. ⌜ r ≡ transitionOf times (now (body .entry)) ⌝ }
+{
+    TransitionReport {
+        times,
+        source: transitions::source_of(body),
+        target: transitions::target_of(body),
+        took: transitions::took_of(body),
+        reason: transitions::reason_of(body),
+        result: transitions::result_of(body),
+        signals: transitions::signals_of(body),
+    }
+}
+
+// So is the end of the body.
 pub fn transition_in(form: u8, o: &[u8]) -> TransitionReport
     ensures { λ r. ⌜ r ≡ transitionIn form (now (o .entry)) ⌝ }
 {
-    if form == DRAFT {
-        let mut padded = [0u8; DRAFT_TRANSITION];
-        pad(o, &mut padded);
-        return transition_of(form, whole_of(o, &padded));
-    }
-    let mut padded = [0u8; PUBLISHED_TRANSITION];
-    pad(o, &mut padded);
-    transition_of(form, whole_of(o, &padded))
+    let body = body_in(form, o);
+    let mut padded = [0u8; transitions::TRANSITION_LENGTH];
+    pad(body, &mut padded);
+    transition_of(times_in(form, o), whole_of(body, &padded))
 }
 
 // The RSN element of a body.

@@ -1,51 +1,79 @@
--- `report_reader::decoders::times_in` meets its contract.
+-- `report_reader::decoders::times_in` meets its contract: by the form, of a part that has as many octets.
 -- Assumes nothing.
+use mathlib.Core.Path.{_≡_, refl, sym, ap, _∙_}
+use native.Mathlib.Omega.{arith}
+use lib.ListN.{length}
 use borrow.Author.Tests.{ne-eqb}
 use Rattle.laws.specs.Choice.{if_then_else_}
-use Rattle.report_reader.specs.Decoders.{timesIn}
+use Rattle.octets.specs.Fields.{octetsAt}
+use Rattle.events.specs.Times.{draftLength, publishedLength}
+use Rattle.report_reader.specs.Decoders.{draftTimes, timesIn}
+use Rattle.report_reader.proofs.DecoderLaws.{draft-first, published-first}
 use borrow.Author.Needs.{needs}
 use Rattle.report_reader.proofs.decoders.times_in.Statement.{statement}
 use Rattle.report_reader.proofs.decoders.times_in.Tie as tie
 
-time-at-requires : tie.Need-time-at-requires
-time-at-requires c κs = search needs
+slice-aggregate-pad : tie.Need-slice-aggregate-pad
+slice-aggregate-pad c = search needs
+
+pad-requires : tie.Need-pad-requires
+unfolding octetsAt
+pad-requires c κs = refl
+
+slice-aggregate-whole-of : tie.Need-slice-aggregate-whole-of
+slice-aggregate-whole-of c = search needs
+
+whole-of-requires : tie.Need-whole-of-requires
+whole-of-requires c κs h =
+    let l : length (c .before .before .pad .last .1 .0) ≡ draftLength = search needs in
+    c .before .before .pad .ensures (omega (arith, h, l)) ∙ ap (octetsAt _ 0) (sym l)
+
+draft-times-requires : tie.Need-draft-times-requires
+draft-times-requires c κs = search needs
 
 returns : tie.Need-returns
 unfolding timesIn if_then_else_
-returns c = rw (c .before .if1 .taken, c .time-at .ensures)
+returns c =
+    let l : length (c .before .before .before .before .pad .last .1 .0) ≡ draftLength = search needs in
+    rw (c .before .before .before .before .before .before .if1 .taken) (c .draft-times .ensures ∙ ap draftTimes (draft-first _ _ (c .before .whole-of .ensures ∙ ap (octetsAt _ 0) l)))
 
-slice-aggregate-read-at : tie.Need-slice-aggregate-read-at
-slice-aggregate-read-at c = search needs
+slice-aggregate-pad-2 : tie.Need-slice-aggregate-pad-2
+slice-aggregate-pad-2 c = search needs
 
-read-at-requires : tie.Need-read-at-requires
-read-at-requires c κs = search needs
+pad-requires-2 : tie.Need-pad-requires-2
+unfolding octetsAt
+pad-requires-2 c κs = refl
 
-slice-aggregate-read-at-2 : tie.Need-slice-aggregate-read-at-2
-slice-aggregate-read-at-2 c = search needs
+slice-aggregate-whole-of-2 : tie.Need-slice-aggregate-whole-of-2
+slice-aggregate-whole-of-2 c = search needs
 
-read-at-requires-2 : tie.Need-read-at-requires-2
-read-at-requires-2 c κs = search needs
+whole-of-requires-2 : tie.Need-whole-of-requires-2
+whole-of-requires-2 c κs h =
+    let l : length (c .before .before .pad2 .last .1 .0) ≡ publishedLength = search needs in
+    c .before .before .pad2 .ensures (omega (arith, h, l)) ∙ ap (octetsAt _ 0) (sym l)
 
-slice-aggregate-read-at-3 : tie.Need-slice-aggregate-read-at-3
-slice-aggregate-read-at-3 c = search needs
-
-read-at-requires-3 : tie.Need-read-at-requires-3
-read-at-requires-3 c κs = search needs
+published-times-requires : tie.Need-published-times-requires
+published-times-requires c κs = search needs
 
 returns-2 : tie.Need-returns-2
 unfolding timesIn if_then_else_
-returns-2 c = rw (ne-eqb _ _ (c .before .before .before .before .before .before .before .before .before .if1 .left), c .before .before .before .before .before .before .before .read-at .ensures, c .before .before .before .before .read-at2 .ensures, c .before .read-at3 .ensures)
+returns-2 c =
+    let l : length (c .before .before .before .before .pad2 .last .1 .0) ≡ publishedLength = search needs in
+    rw (ne-eqb _ _ (c .before .before .before .before .before .before .if1 .left)) (c .published-times .ensures ∙ published-first _ _ (c .before .whole-of2 .ensures ∙ ap (octetsAt _ 0) l))
 
 pub times-in-spec : {M : Type 1} → statement M
 times-in-spec =
     tie.close
     (tie.spec
-    time-at-requires
+    slice-aggregate-pad
+    pad-requires
+    slice-aggregate-whole-of
+    whole-of-requires
+    draft-times-requires
     returns
-    slice-aggregate-read-at
-    read-at-requires
-    slice-aggregate-read-at-2
-    read-at-requires-2
-    slice-aggregate-read-at-3
-    read-at-requires-3
+    slice-aggregate-pad-2
+    pad-requires-2
+    slice-aggregate-whole-of-2
+    whole-of-requires-2
+    published-times-requires
     returns-2)

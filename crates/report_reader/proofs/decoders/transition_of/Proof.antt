@@ -1,15 +1,8 @@
 -- `report_reader::decoders::transition_of` meets its contract.
 -- Assumes nothing.
-use Rattle.report_reader.specs.Decoders.{transitionIn}
 use borrow.Author.Needs.{needs}
 use Rattle.report_reader.proofs.decoders.transition_of.Statement.{statement}
 use Rattle.report_reader.proofs.decoders.transition_of.Tie as tie
-
-body-in-requires : tie.Need-body-in-requires
-body-in-requires c κs = search needs
-
-times-in-requires : tie.Need-times-in-requires
-times-in-requires c κs = search needs
 
 source-of-requires : tie.Need-source-of-requires
 source-of-requires c κs = search needs
@@ -30,16 +23,13 @@ signals-of-requires : tie.Need-signals-of-requires
 signals-of-requires c κs = search needs
 
 returns : tie.Need-returns
-unfolding transitionIn
 returns c =
-    rw (c .before .before .before .before .before .before .times-in .ensures, c .before .before .before .before .before .source-of .ensures, c .before .before .before .before .target-of .ensures, c .before .before .before .took-of .ensures, c .before .before .reason-of .ensures, c .before .result-of .ensures, c .signals-of .ensures, c .before .before .before .before .before .before .before .body-in .ensures)
+    rw (c .before .before .before .before .before .source-of .ensures, c .before .before .before .before .target-of .ensures, c .before .before .before .took-of .ensures, c .before .before .reason-of .ensures, c .before .result-of .ensures, c .signals-of .ensures)
 
 pub transition-of-spec : {M : Type 1} → statement M
 transition-of-spec =
     tie.close
     (tie.spec
-    body-in-requires
-    times-in-requires
     source-of-requires
     target-of-requires
     took-of-requires
