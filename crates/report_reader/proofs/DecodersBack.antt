@@ -1,10 +1,9 @@
 -- What is decoded of an event's octets is what was logged, for each kind; and its report has the length of its type.
 -- Assumes nothing.
-use Prim.Native.Nat.{ℕ, _+_, _≤_, _<_}
-use mathlib.Core.Path.{_≡_, refl, sym, ap, _∙_}
+use Prim.Native.Nat.{ℕ, _+_, _<_}
+use mathlib.Core.Path.{_≡_, refl, ap, _∙_}
 use mathlib.Core.Bool.{Bool, true, false, _||_}
 use mathlib.Core.List.{List, _++_, append-assoc}
-use native.Mathlib.Nat.{add-zero}
 use native.Mathlib.Omega.{arith}
 use lib.Dec.{eqb, ltb}
 use lib.ListN.{length, getD, drop, List·getD-append}
@@ -18,15 +17,15 @@ use Rattle.octets.specs.Times.{timeAt}
 use Rattle.octets.proofs.PlaceLaws.{octets-stand}
 use Rattle.subelements.specs.Subelements.{tables}
 use Rattle.events.specs.declared.times.Times.{Times}
-use Rattle.events.specs.Times.{draft, draftLength, publishedLength, timeLength, publishedFields, byForm}
+use Rattle.events.specs.Times.{draft, timeLength, publishedFields, byForm}
 use Rattle.events.specs.Transitions.{transitionLength, transitionBody}
 use Rattle.events.specs.RsnaEvents.{methodOffset, rsnLength, rsnaLength, rsnaBody}
 use Rattle.events.specs.PeerLinks.{peerLinkLength, peerLinkBody}
 use Rattle.events.specs.Log.{timeOf}
-use Rattle.events.specs.Loggings.{LoggedEvent, transition, rsna, peerLink, eventType, eventTimes, eventBody, goodRsnElement, entryWith, entryOf, TimesLengths, EventLengths}
+use Rattle.events.specs.Loggings.{LoggedEvent, transition, rsna, peerLink, eventType, eventBody, goodRsnElement, entryWith, entryOf, TimesLengths, EventLengths}
 use Rattle.events.proofs.LoggingLaws.{time-length}
 use Rattle.events.proofs.TransitionLaws.{body-length, source-back, target-back, took-back, reason-back, result-back, signals-back}
-use Rattle.events.proofs.RsnaLaws.{method-some, rsna-whole, method-first, rsna-target-back, authentication-back, method-back, rsna-result-back, rsn-back}
+use Rattle.events.proofs.RsnaLaws.{rsna-whole, method-first, rsna-target-back, authentication-back, method-back, rsna-result-back, rsn-back}
 use Rattle.events.proofs.PeerLinkLaws.{peer-link-length, peer-back, class-back, channel-back, power-back, connection-back, peer-status-back}
 use Rattle.report_reader.specs.Decoders.{draftTimes, publishedTimes, timesIn, transitionIn, rsnaIn, peerLinkIn, decoded}
 use Rattle.report_reader.specs.Reader.{reportLength, isRsnaLength, isEventLength}
@@ -35,28 +34,28 @@ use Rattle.report_reader.specs.Contents.{carriedTimes, reportedEvent}
 -- ---- the time fields in a form, and a body behind them
 
 module _ (t : Times) (body : List ℕ) (w : TimesLengths t) where
-  draft-first : timeAt (t .time ++ body) 0 ≡ t .time
-  draft-first = octets-stand (t .time ++ body) 0 9 (t .time) body (w .time) refl
+  draft-stands : timeAt (t .time ++ body) 0 ≡ t .time
+  draft-stands = octets-stand (t .time ++ body) 0 9 (t .time) body (w .time) refl
 
-  published-first : (o : List ℕ) → o ≡ publishedFields t ++ body
+  published-stands : (o : List ℕ) → o ≡ publishedFields t ++ body
       → publishedTimes (octetsAt o 0 8) (octetsAt o 8 10) (octetsAt o 18 5) ≡ publishedTimes (t .tsf) (t .offset) (t .error)
   unfolding publishedFields
-  published-first o e =
+  published-stands o e =
       let a : o ≡ t .tsf ++ (t .offset ++ (t .error ++ body)) =
       e ∙ append-assoc (t .tsf) (t .offset ++ t .error) body ∙ ap (λ (r : List ℕ). t .tsf ++ r) (append-assoc (t .offset) (t .error) body) in
       let b : drop 8 o ≡ t .offset ++ (t .error ++ body) = stands-behind o 0 (t .tsf) (t .offset ++ (t .error ++ body)) a 8 (omega (arith, w .tsf)) in
       let d : drop 18 o ≡ t .error ++ body = stands-behind o 8 (t .offset) (t .error ++ body) b 18 (omega (arith, w .offset)) in
       rw (octets-stand o 0 8 (t .tsf) _ (w .tsf) a, octets-stand o 8 10 (t .offset) _ (w .offset) b, octets-stand o 18 5 (t .error) body (w .error) d)
 
-  times-first : (form : ℕ) → timesIn form (byForm form (t .time) (publishedFields t) ++ body) ≡ carriedTimes form t
+  times-stand : (form : ℕ) → timesIn form (byForm form (t .time) (publishedFields t) ++ body) ≡ carriedTimes form t
   unfolding timesIn if_then_else_
-  times-first form = go (eqb form draft)
+  times-stand form = go (eqb form draft)
     where
       go : (b : Bool) → let o = (if b then t .time else publishedFields t) ++ body in
           (if b then draftTimes (timeAt o 0) else publishedTimes (octetsAt o 0 8) (octetsAt o 8 10) (octetsAt o 18 5))
           ≡ (if b then draftTimes (t .time) else publishedTimes (t .tsf) (t .offset) (t .error))
-      go true = ap draftTimes draft-first
-      go false = published-first (publishedFields t ++ body) refl
+      go true = ap draftTimes draft-stands
+      go false = published-stands (publishedFields t ++ body) refl
 
 body-behind : (time body : List ℕ) (n : ℕ) → length time ≡ n → drop n (time ++ body) ≡ body
 body-behind time body n e = stands-behind (time ++ body) 0 time body refl n (omega (arith, e))
@@ -70,15 +69,15 @@ decoded-back form stamp reading (transition t) w =
     let tus : ℕ = tusOf (age reading (t .departure .0)) in
     let body : List ℕ = transitionBody t tus in
     let f = w .fields in
-    rw (times-first (t .times) body (w .times) form, body-behind (timeOf form (entryOf stamp reading (transition t))) body (timeLength form) (time-length form stamp reading (transition t) w), source-back t tus f, target-back t tus f, took-back t tus f, reason-back t tus f, result-back t tus f, signals-back t tus f)
+    rw (times-stand (t .times) body (w .times) form, body-behind (timeOf form (entryOf stamp reading (transition t))) body (timeLength form) (time-length form stamp reading (transition t) w), source-back t tus f, target-back t tus f, took-back t tus f, reason-back t tus f, result-back t tus f, signals-back t tus f)
 decoded-back form stamp reading (rsna e rsn) w =
     let body : List ℕ = rsnaBody e rsn in
     let f = w .fields in
-    rw (times-first (e .times) body (w .times) form, body-behind (timeOf form (entryOf stamp reading (rsna e rsn))) body (timeLength form) (time-length form stamp reading (rsna e rsn) w), rsna-target-back e rsn f, authentication-back e rsn f, method-back e rsn f, rsna-result-back e rsn f, rsn-back e rsn f)
+    rw (times-stand (e .times) body (w .times) form, body-behind (timeOf form (entryOf stamp reading (rsna e rsn))) body (timeLength form) (time-length form stamp reading (rsna e rsn) w), rsna-target-back e rsn f, authentication-back e rsn f, method-back e rsn f, rsna-result-back e rsn f, rsn-back e rsn f)
 decoded-back form stamp reading (peerLink e) w =
     let body : List ℕ = peerLinkBody e in
     let f = w .fields in
-    rw (times-first (e .times) body (w .times) form, body-behind (timeOf form (entryOf stamp reading (peerLink e))) body (timeLength form) (time-length form stamp reading (peerLink e) w), peer-back e f, class-back e f, channel-back e f, power-back e f, connection-back e f, peer-status-back e f)
+    rw (times-stand (e .times) body (w .times) form, body-behind (timeOf form (entryOf stamp reading (peerLink e))) body (timeLength form) (time-length form stamp reading (peerLink e) w), peer-back e f, class-back e f, channel-back e f, power-back e f, connection-back e f, peer-status-back e f)
 
 -- ---- its type and its length
 

@@ -1,6 +1,6 @@
 -- What a reader told one form makes of the other: no length is one of both forms, so every event is refused; and all else is read the same.
 -- Assumes nothing.
-use Prim.Native.Nat.{ℕ, zero, suc, _+_, _-_, _*_, _≤_, _<_}
+use Prim.Native.Nat.{ℕ, suc, _+_, _-_, _*_, _≤_}
 use mathlib.Core.Path.{_≡_, refl, sym, ap, fun-ext, _∙_}
 use mathlib.Core.Bool.{Bool, true, false, _||_}
 use mathlib.Core.List.{List, [], _∷_, _++_, map, map-append, append-assoc, append-nil}
@@ -17,7 +17,6 @@ use Rattle.laws.proofs.Parts.{stands-behind}
 use Rattle.laws.proofs.Walk.{Rest, start, last, again, done, go-on, stop-refused, stop-end}
 use Rattle.octets.specs.declared.numbers.Kind.{Kind}
 use Rattle.octets.specs.declared.numbers.Kind.the-variants.{Event, Diagnostic}
-use Rattle.octets.specs.Numbers.{longestFrame}
 use Rattle.octets.specs.Refusals.{refused, noRefusal, badReportBody}
 use Rattle.subelements.specs.Subelements.{tables, lengthOf, walk}
 use Rattle.units.specs.Time.{age, tusOf}
@@ -26,7 +25,7 @@ use Rattle.events.specs.Log.{timeOf}
 use Rattle.events.specs.RsnaEvents.{methodLength, rsnLength, rsnaLength}
 use Rattle.events.specs.Transitions.{transitionLength}
 use Rattle.events.specs.PeerLinks.{peerLinkLength}
-use Rattle.events.specs.Loggings.{LoggedEvent, transition, rsna, peerLink, eventType, eventBody, entryWith, Logging, entryFor}
+use Rattle.events.specs.Loggings.{transition, rsna, peerLink, eventType, eventBody, entryWith, entryFor}
 use Rattle.events.proofs.TransitionLaws.{body-length}
 use Rattle.events.proofs.RsnaLaws.{rsna-whole}
 use Rattle.events.proofs.PeerLinkLaws.{peer-link-length}
@@ -34,9 +33,9 @@ use Rattle.events.proofs.LoggingLaws.{time-length, body-back}
 use Rattle.reports.specs.Reports.{reportElement, eventElement}
 use Rattle.report_reader.specs.declared.Step.{Step}
 use Rattle.report_reader.specs.declared.Report.{Report}
-use Rattle.report_reader.specs.Reader.{refusedStep, plainStep, reportLength, isRsnaLength, isEventLength, typedStep, eventStep, walkedStep, diagnosticStep, ownReportStep, stepAt, Reading, reading, gathered, unread, readStep, readElements, reportOf}
+use Rattle.report_reader.specs.Reader.{refusedStep, plainStep, reportLength, isEventLength, typedStep, eventStep, walkedStep, diagnosticStep, ownReportStep, stepAt, Reading, reading, gathered, unread, readStep, readElements, reportOf}
 use Rattle.report_reader.specs.Contents.{Content, statusOnly, loggedEvent, keptUnread, withSubelements, Valid, contentOctets, contentFrame, contentRead}
-use Rattle.report_reader.specs.Forms.{Differ, LengthsDiffer, OtherFormRefused, NoEvent, OtherFormNeverShown, tellsEvent, OtherFrameRefused, Same, SameInBothForms}
+use Rattle.report_reader.specs.Forms.{Differ, LengthsDiffer, OtherFormRefused, NoEvent, OtherFormNeverShown, tellsEvent, OtherFrameRefused, SameInBothForms}
 use Rattle.report_reader.proofs.Laws.{time-least}
 use Rattle.report_reader.proofs.DecodersBack.{typed}
 use Rattle.report_reader.proofs.RoundTrip.{ty-there, status-there, own-there, own-event, content-back, content-some, report-of, elements-back}

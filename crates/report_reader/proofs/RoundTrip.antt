@@ -17,7 +17,7 @@ use Rattle.laws.proofs.Parts.{stands-at, stands-first, stands-length, stands-be
 use Rattle.laws.proofs.Pieces.{Each, each-all, along}
 use Rattle.octets.specs.declared.numbers.Kind.{Kind}
 use Rattle.octets.specs.declared.numbers.Kind.the-variants.{Event, Diagnostic}
-use Rattle.octets.specs.Numbers.{category, reportAction, reportId, successful, longestFrame}
+use Rattle.octets.specs.Numbers.{category, reportAction, reportId, longestFrame}
 use Rattle.octets.specs.Refusals.{noRefusal}
 use Rattle.octets.specs.Fields.{octetsAt}
 use Rattle.octets.specs.Addresses.{isGroup}

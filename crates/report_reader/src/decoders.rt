@@ -132,8 +132,8 @@ fn published_times(o: &[u8]) -> Times
     }
 }
 
-// The time fields in a form. The end is tested before all of them: the length of what they are read of is a
-// constant.
+// The time fields in a form. The end is tested before all of them: the length of what they are read of
+// is a constant.
 fn times_in(form: u8, o: &[u8]) -> Times
     ensures { λ r. ⌜ r ≡ timesIn form (now (o .entry)) ⌝ }
 {
@@ -161,7 +161,7 @@ fn transition_of(times: Times, body: &[u8]) -> TransitionReport
     }
 }
 
-// So is the end of the body.
+// The body is cut as the time fields are: one test for the end before all of its fields.
 pub fn transition_in(form: u8, o: &[u8]) -> TransitionReport
     ensures { λ r. ⌜ r ≡ transitionIn form (now (o .entry)) ⌝ }
 {

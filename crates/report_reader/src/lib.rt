@@ -414,8 +414,8 @@ fn validated(form: u8, s: &[u8], kind: Kind) -> Report
     report_of(kind, octet(s, 2), validate(form, s, kind))
 }
 
-// Validates a whole frame, given its form and its destination. Each kind has a loop of its own, in which the kind is
-// a constant: `validate_at` is then inlined.
+// Validates a whole frame, given its form and its destination. Each kind has a loop of its own, in which
+// the kind is a constant.
 pub fn read_report(form: u8, destination: [u8; 6], s: &[u8]) -> Report
     ensures { λ r. ⌜ r ≡ readReport form destination (now (s .entry)) ⌝ }
 {
