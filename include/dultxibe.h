@@ -98,7 +98,7 @@ enum {
 /* A station: its time, its identity, its log of 64 events, its requesters. What it holds is not for
  * the caller, who copies it as a whole. */
 struct dultxibe_station {
-    uint64_t opaque[1005];
+    uint64_t opaque[981];
 };
 
 /* A requester as a list names it: its address, and the form of the reports to it. */

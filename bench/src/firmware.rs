@@ -14,7 +14,7 @@ pub struct Reply {
 #[derive(Clone, Copy)]
 #[repr(C)]
 pub struct Station {
-    opaque: [u64; 1005],
+    opaque: [u64; 981],
 }
 
 #[derive(Clone, Copy)]
@@ -142,8 +142,8 @@ pub struct PeerLinkReport {
     pub status: u8,
 }
 
-const _: () = assert!(size_of::<Reply>() == 24 && size_of::<Station>() == 8040);
-const _: () = assert!(size_of::<Outcome>() == 8064 && size_of::<Transition>() == 56);
+const _: () = assert!(size_of::<Reply>() == 24 && size_of::<Station>() == 7848);
+const _: () = assert!(size_of::<Outcome>() == 7872 && size_of::<Transition>() == 56);
 const _: () = assert!(size_of::<Requester>() == 7 && size_of::<Times>() == 32);
 const _: () = assert!(size_of::<RsnaEvent>() == 51 && size_of::<PeerLink>() == 45);
 const _: () = assert!(size_of::<ReportFrame>() == 24 && size_of::<Step>() == 56);
