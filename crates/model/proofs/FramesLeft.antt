@@ -125,12 +125,7 @@ unfoldable pub ShortEntry : Entry → Type 0
 ShortEntry e = (form token : ℕ) → length (eventElement form token e) ≤ 257
 
 past-time : (form : ℕ) → timeOf form pastLog ≡ []
-unfolding if_then_else_
-past-time form = go (eqb form draft)
-  where
-    go : (b : Bool) → (if b then pastLog .time else pastLog .published) ≡ []
-    go true = refl
-    go false = refl
+past-time form = either (λ (l : List ℕ). l ≡ []) (eqb form draft) _ _ (λ _. refl) (λ _. refl)
 
 short-at : (log : List Entry) → All ShortEntry log → (p : ℕ) → ShortEntry (getD log p pastLog)
 unfolding ShortEntry eventElement

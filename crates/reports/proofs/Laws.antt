@@ -2,21 +2,18 @@
 -- Assumes nothing.
 use Prim.Native.Nat.{ℕ, suc, _+_, _≤_, min}
 use mathlib.Core.Path.{_≡_, refl, sym, ap, _∙_}
-use mathlib.Core.Bool.{Bool, true, false}
 use mathlib.Core.List.{List, [], _++_, append-nil}
 use native.Mathlib.Nat.{zero-add}
 use native.Mathlib.Omega.{arith}
-use lib.Dec.{eqb}
 use lib.ListN.{length, take, length-append, length-take}
 use Rattle.laws.proofs.Arrays.{take-min}
-use Rattle.laws.specs.Choice.{if_then_else_}
 use Rattle.laws.specs.Buffers.{wrote, putFront, putAt}
 use Rattle.laws.proofs.Buffers.{Putting, putting-start, putting-at, putting-done, putting-end, put-front-fits}
 use Rattle.octets.specs.declared.numbers.Kind.{Kind}
 use Rattle.octets.specs.declared.numbers.Kind.the-variants.{Event}
 use Rattle.octets.specs.Numbers.{successful}
 use Rattle.events.specs.declared.Entry.{Entry}
-use Rattle.events.specs.Times.{draft, draftLength, publishedLength, timeLength}
+use Rattle.events.specs.Times.{timeLength}
 use Rattle.events.specs.Log.{bodyCapacity, bodyOf, timeOf}
 use Rattle.reports.specs.Reports.{reportElement, eventElement, reportHead}
 
@@ -51,16 +48,6 @@ module _ (kind : Kind) (token ty status : ℕ) (rest : List ℕ) where
   pub element-length : length (reportElement kind token ty status rest) ≡ 5 + length rest
   unfolding reportElement
   element-length = omega arith
-
--- of an entry whose time fields have their lengths, in every form
-pub form-length : (form : ℕ) (entry : Entry) → length (entry .time) ≡ draftLength → length (entry .published) ≡ publishedLength
-    → length (timeOf form entry) ≡ timeLength form
-unfolding if_then_else_
-form-length form entry d p = go (eqb form draft)
-  where
-    go : (b : Bool) → length (if b then entry .time else entry .published) ≡ (if b then draftLength else publishedLength)
-    go true = d
-    go false = p
 
 module _ (form token : ℕ) (entry : Entry) (t : length (timeOf form entry) ≡ timeLength form) (b : length (entry .body) ≡ bodyCapacity) (n : ℕ) (m : n ≡ min (entry .length) bodyCapacity) where
   pub body-part : take n (entry .body) ≡ bodyOf entry

@@ -6,7 +6,8 @@ use lib.ListN.{length}
 use Rattle.laws.proofs.Buffers.{put-front-short}
 use Rattle.events.specs.Times.{draftLength, publishedLength, timeLength}
 use Rattle.events.specs.Log.{bodyCapacity, timeOf}
-use Rattle.reports.proofs.Laws.{form-length, event-length, put-event-parts}
+use Rattle.events.proofs.LoggingLaws.{form-length}
+use Rattle.reports.proofs.Laws.{event-length, put-event-parts}
 use borrow.Author.Needs.{needs}
 use Rattle.reports.proofs.put_event.Statement.{statement}
 use Rattle.reports.proofs.put_event.Tie as tie
