@@ -8,7 +8,7 @@
 /* Logs a transition that took so many milliseconds. */
 static struct dultxibe_station logged(struct dultxibe_station station, uint32_t arrival, uint32_t took) {
     struct dultxibe_transition t = {
-        .time = {255, 255, 255, 255, 255, 255, 255, 255, 255},
+        .times.time = {255, 255, 255, 255, 255, 255, 255, 255, 255},
         .source = {2, 1, 1, 1, 1, 1},
         .target = {2, 1, 1, 1, 1, 2},
         .reason = 6,
@@ -26,7 +26,7 @@ static void ask(struct dultxibe_station station, const uint8_t *element, size_t 
 
 int main(void) {
     static const uint8_t identity[] = {13, 3, 0, 80, 194, 11, 1, 75, 12, 1, 71, 14, 1, 49, 9, 1, 49};
-    static const uint8_t requesters[1][6] = {{2, 0, 0, 0, 0, 16}};
+    static const struct dultxibe_requester requesters[1] = {{{2, 0, 0, 0, 0, 16}, DULTXIBE_DRAFT}};
     /* transitions, limit 1, of 100 TUs or more */
     static const uint8_t element[] = {78, 7, 5, 0, 1, 2, 2, 100, 0};
     struct dultxibe_outcome o = dultxibe_setup(identity, sizeof identity, requesters, 1);

@@ -45,7 +45,7 @@ int main(void) {
     size_t position = DULTXIBE_FIRST_ELEMENT;
     while (position < sizeof report) {
         struct dultxibe_step step =
-            dultxibe_next_element(DULTXIBE_EVENT, position, report, sizeof report);
+            dultxibe_next_element(DULTXIBE_DRAFT, DULTXIBE_EVENT, position, report, sizeof report);
         printf("cause %u found %u logged %u next %zu\n", step.cause, step.found,
                step.element.logged, step.next);
         if (step.cause != 0) return 1;

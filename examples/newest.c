@@ -6,13 +6,13 @@
 #include "dultxibe.h"
 
 static const uint8_t address[6] = {2, 0, 0, 0, 0, 1};
-static const uint8_t requesters[1][6] = {{2, 0, 0, 0, 0, 16}};
+static const struct dultxibe_requester requesters[1] = {{{2, 0, 0, 0, 0, 16}, DULTXIBE_DRAFT}};
 static const uint8_t identity[] = {13, 3, 0, 80, 194, 11, 1, 'K', 12, 1, 'G', 14, 1, '1', 9, 1, '1'};
 
 /* A transition at a time that is not known. */
 static struct dultxibe_transition transition(uint8_t reason) {
     struct dultxibe_transition t = {
-        .time = {255, 255, 255, 255, 255, 255, 255, 255, 255},
+        .times.time = {255, 255, 255, 255, 255, 255, 255, 255, 255},
         .source = {2, 1, 1, 1, 1, 1},
         .target = {2, 1, 1, 1, 1, 2},
         .reason = reason,
@@ -30,7 +30,7 @@ static struct dultxibe_station ask(struct dultxibe_station station, uint8_t dial
     uint8_t frame[267];
     struct dultxibe_reply wrote = dultxibe_write_request(asked, frame, sizeof frame);
     struct dultxibe_outcome o =
-        dultxibe_frame(station, 20, address, requesters[0], frame, wrote.length);
+        dultxibe_frame(station, 20, address, requesters[0].address, frame, wrote.length);
     printf("asked for %u: %s\n", limit, o.reply.code == DULTXIBE_ACCEPTED ? "accepted" : "refused");
     return o.station;
 }
@@ -39,7 +39,7 @@ static struct dultxibe_station ask(struct dultxibe_station station, uint8_t dial
 static struct dultxibe_station report(struct dultxibe_station station) {
     uint8_t frame[260] = {0};
     struct dultxibe_outcome o =
-        dultxibe_report(station, 30, requesters[0], DULTXIBE_EVENT, frame, sizeof frame);
+        dultxibe_report(station, 30, requesters[0].address, DULTXIBE_EVENT, frame, sizeof frame);
     if (o.reply.code != DULTXIBE_LENGTH) {
         printf("no report\n");
         return o.station;
@@ -48,10 +48,11 @@ static struct dultxibe_station report(struct dultxibe_station station) {
     size_t position = DULTXIBE_FIRST_ELEMENT;
     while (position < o.reply.length) {
         struct dultxibe_step step =
-            dultxibe_next_element(DULTXIBE_EVENT, position, frame, o.reply.length);
+            dultxibe_next_element(DULTXIBE_DRAFT, DULTXIBE_EVENT, position, frame, o.reply.length);
         if (step.cause != 0) break;
         if (step.element.logged)
-            printf(" %u", dultxibe_read_transition(frame + step.rest, step.element.length).reason);
+            printf(" %u", dultxibe_read_transition(DULTXIBE_DRAFT, frame + step.rest,
+                                                   step.element.length).reason);
         position = step.next;
     }
     printf("\n");

@@ -10,14 +10,15 @@
 #include "dultxibe.h"
 
 static const uint8_t address[6] = {2, 0, 0, 0, 0, 1};
-static const uint8_t requesters[2][6] = {{2, 0, 0, 0, 0, 16}, {2, 0, 0, 0, 0, 17}};
+static const struct dultxibe_requester requesters[2] = {{{2, 0, 0, 0, 0, 16}, DULTXIBE_DRAFT},
+                                                        {{2, 0, 0, 0, 0, 17}, DULTXIBE_DRAFT}};
 static const uint8_t stranger[6] = {2, 0, 0, 0, 0, 18};
 
 /* Manufacturer OI, ID string, model, serial number, firmware version: subelements 13, 11, 12, 14, 9. */
 static const uint8_t identity[] = {13, 3, 0, 80, 194, 11, 1, 'K', 12, 1, 'G', 14, 1, '1', 9, 1, '1'};
 
 static const struct dultxibe_transition transition = {
-    .time = {231, 3, 59, 59, 23, 31, 12, 234, 7}, /* 2026-12-31 23:59:59.999 */
+    .times.time = {231, 3, 59, 59, 23, 31, 12, 234, 7}, /* 2026-12-31 23:59:59.999 */
     .source = {2, 1, 1, 1, 1, 1},
     .target = {2, 1, 1, 1, 1, 2},
     .reason = 6,
@@ -28,7 +29,7 @@ static const struct dultxibe_transition transition = {
 
 /* A login that failed. EAP method 254: the vendor 00:50:c2, its type 1. */
 static const struct dultxibe_rsna_event login = {
-    .time = {0, 0, 1, 0, 0, 1, 1, 235, 7}, /* 2027-01-01 00:00:01.000 */
+    .times.time = {0, 0, 1, 0, 0, 1, 1, 235, 7}, /* 2027-01-01 00:00:01.000 */
     .target = {2, 1, 1, 1, 1, 2},
     .authentication = {0, 15, 172, 1},
     .method = {254, 0, 80, 194, 0, 0, 0, 1},
@@ -41,7 +42,7 @@ static const uint8_t rsn[22] = {48, 20,  1, 0, 0, 15, 172, 4,   1, 0, 0,
 
 /* A direct link, active for 10,000 seconds at an unknown time. */
 static const struct dultxibe_peer_link direct_link = {
-    .time = {255, 255, 255, 255, 255, 255, 255, 255, 255},
+    .times.time = {255, 255, 255, 255, 255, 255, 255, 255, 255},
     .peer = {2, 2, 2, 2, 2, 2},
     .regulatory_class = 12,
     .channel = 6,
@@ -78,7 +79,7 @@ static void print_field(const char *name, const uint8_t *octets, size_t length) 
 }
 
 static void print_transition(struct dultxibe_transition_report e) {
-    print_field("time", e.time, sizeof e.time);
+    print_field("time", e.times.time, sizeof e.times.time);
     print_field("source", e.source, sizeof e.source);
     print_field("target", e.target, sizeof e.target);
     print_field("signals", e.signals, sizeof e.signals);
@@ -86,7 +87,7 @@ static void print_transition(struct dultxibe_transition_report e) {
 }
 
 static void print_rsna(struct dultxibe_rsna_report e) {
-    print_field("time", e.time, sizeof e.time);
+    print_field("time", e.times.time, sizeof e.times.time);
     print_field("target", e.target, sizeof e.target);
     print_field("authentication", e.authentication, sizeof e.authentication);
     print_field("method", e.method, sizeof e.method);
@@ -95,7 +96,7 @@ static void print_rsna(struct dultxibe_rsna_report e) {
 }
 
 static void print_peer_link(struct dultxibe_peer_link_report e) {
-    print_field("time", e.time, sizeof e.time);
+    print_field("time", e.times.time, sizeof e.times.time);
     print_field("peer", e.peer, sizeof e.peer);
     print_field("connection", e.connection, sizeof e.connection);
     printf("  class %u channel %u power %u status %u\n", e.regulatory_class, e.channel, e.power,
@@ -106,13 +107,13 @@ static void print_peer_link(struct dultxibe_peer_link_report e) {
 static void print_event(uint8_t type, const uint8_t *octets, size_t length) {
     switch (type) {
     case DULTXIBE_TRANSITION:
-        print_transition(dultxibe_read_transition(octets, length));
+        print_transition(dultxibe_read_transition(DULTXIBE_DRAFT, octets, length));
         break;
     case DULTXIBE_RSNA:
-        print_rsna(dultxibe_read_rsna(octets, length));
+        print_rsna(dultxibe_read_rsna(DULTXIBE_DRAFT, octets, length));
         break;
     case DULTXIBE_PEER_LINK:
-        print_peer_link(dultxibe_read_peer_link(octets, length));
+        print_peer_link(dultxibe_read_peer_link(DULTXIBE_DRAFT, octets, length));
         break;
     }
 }
@@ -127,12 +128,14 @@ static void print_element(struct dultxibe_step step, const uint8_t *frame) {
 }
 
 static void print_report(const uint8_t *frame, size_t length) {
-    struct dultxibe_report_frame report = dultxibe_read_report(requesters[0], frame, length);
+    struct dultxibe_report_frame report =
+        dultxibe_read_report(DULTXIBE_DRAFT, requesters[0].address, frame, length);
     printf("read: cause %u kind %u dialog %u elements %zu\n", report.cause, report.kind,
            report.dialog, report.count);
     size_t position = DULTXIBE_FIRST_ELEMENT;
     while (report.cause == 0 && position < length) {
-        struct dultxibe_step step = dultxibe_next_element(report.kind, position, frame, length);
+        struct dultxibe_step step =
+            dultxibe_next_element(DULTXIBE_DRAFT, report.kind, position, frame, length);
         if (step.found) print_element(step, frame);
         position = step.next;
     }
@@ -183,7 +186,7 @@ static struct dultxibe_outcome give_report(struct dultxibe_station station, uint
                                            uint8_t kind) {
     uint8_t report[260] = {0};
     struct dultxibe_outcome o =
-        dultxibe_report(station, reading, requesters[0], kind, report, sizeof report);
+        dultxibe_report(station, reading, requesters[0].address, kind, report, sizeof report);
     print_reply("report", o.reply);
     if (o.reply.code == DULTXIBE_LENGTH) {
         print_octets(report, o.reply.length);
@@ -208,13 +211,13 @@ int main(void) {
     print_reply("log a peer link", o.reply);
     o = dultxibe_frame(o.station, 14, address, stranger, request, length);
     print_reply("stranger's frame", o.reply);
-    o = dultxibe_frame(o.station, 15, address, requesters[0], request, length);
+    o = dultxibe_frame(o.station, 15, address, requesters[0].address, request, length);
     print_reply("frame", o.reply);
     o = give_report(o.station, 16, DULTXIBE_EVENT);
     o = give_report(o.station, 17, DULTXIBE_EVENT);
 
     length = write_request(ask_for_diagnostics(), request, sizeof request);
-    o = dultxibe_frame(o.station, 18, address, requesters[0], request, length);
+    o = dultxibe_frame(o.station, 18, address, requesters[0].address, request, length);
     print_reply("frame", o.reply);
     give_report(o.station, 19, DULTXIBE_DIAGNOSTIC);
     return 0;

@@ -14,9 +14,9 @@
 enum { AREA = 1 << 16 };
 
 typedef void *setup_into(void *outcome, const uint8_t *identity, size_t length,
-                         const uint8_t (*requesters)[6], size_t count);
+                         const struct dultxibe_requester *requesters, size_t count);
 
-static const uint8_t requester[1][6] = {{2, 0, 0, 0, 0, 16}};
+static const struct dultxibe_requester requester[1] = {{{2, 0, 0, 0, 0, 16}, DULTXIBE_DRAFT}};
 static const uint8_t none[1] = {0};
 
 /* A setup with an empty identity and count requesters, into an area filled with an octet. */

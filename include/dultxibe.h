@@ -56,10 +56,12 @@ enum {
     DULTXIBE_CAUSE_UNKNOWN_REQUESTER = 12,  /* not on the station's list */
     DULTXIBE_CAUSE_SHORT_BUFFER = 13,       /* under 260 octets for a report, 267 for a request */
     DULTXIBE_CAUSE_BAD_TIME = 14,           /* out of range, not unknown; place when reading: element */
-    DULTXIBE_CAUSE_BAD_REQUESTER_LIST = 15, /* empty, over four, repeated, or with a group address */
+    DULTXIBE_CAUSE_BAD_REQUESTER_LIST = 15, /* empty, over four, repeated, with a group address, or
+                                               with a form that is none; reading: the form is none */
     DULTXIBE_CAUSE_BAD_IDENTITY = 16,       /* no good identity */
-    DULTXIBE_CAUSE_BAD_REPORT_BODY = 17,    /* bad status, or length for it; place: element. Logging:
-                                               an RSN element not of 0 or 22 octets */
+    DULTXIBE_CAUSE_BAD_REPORT_BODY = 17,    /* bad status, or length for it, also an event of the other
+                                               form; place: element. Logging: an RSN element not of
+                                               0 or 22 octets */
     DULTXIBE_CAUSE_NO_LOGGED_EVENT = 18     /* explaining: no event stands at the position */
 };
 
@@ -74,6 +76,10 @@ struct dultxibe_reply {
 
 /* What a frame asks for or reports. A function takes any number but 0 for DULTXIBE_DIAGNOSTIC. */
 enum { DULTXIBE_EVENT = 0, DULTXIBE_DIAGNOSTIC = 1 };
+
+/* The form of an event's time fields in a report: the draft's nine octets of time, or the published
+ * TSF, UTC offset and event time error. Any other number is no form. */
+enum { DULTXIBE_DRAFT = 0, DULTXIBE_PUBLISHED = 1 };
 
 /* Event types that are logged and reported; every other one is answered DULTXIBE_INCAPABLE. */
 enum { DULTXIBE_TRANSITION = 0, DULTXIBE_RSNA = 1, DULTXIBE_PEER_LINK = 2 };
@@ -92,14 +98,29 @@ enum {
 /* A station: its time, its identity, its log of 64 events, its requesters. What it holds is not for
  * the caller, who copies it as a whole. */
 struct dultxibe_station {
-    uint64_t opaque[813];
+    uint64_t opaque[981];
 };
 
-/* A transition to be logged. time, of every event: milliseconds 2, second, minute, hour, day, month,
- * year 2, each in its range or all ones (unknown). signals: source RCPI, source RSNI, target RCPI,
- * target RSNI. departure: a reading. */
-struct dultxibe_transition {
+/* A requester as a list names it: its address, and the form of the reports to it. */
+struct dultxibe_requester {
+    uint8_t address[6];
+    uint8_t form;
+};
+
+/* The time fields of an event, those of both forms. time: milliseconds 2, second, minute, hour, day,
+ * month, year 2, each in its range or all ones (unknown). tsf, utc_offset and time_error are not read,
+ * and go out as they are handed in. */
+struct dultxibe_times {
     uint8_t time[9];
+    uint8_t tsf[8];
+    uint8_t utc_offset[10];
+    uint8_t time_error[5];
+};
+
+/* A transition to be logged. signals: source RCPI, source RSNI, target RCPI, target RSNI. departure: a
+ * reading. */
+struct dultxibe_transition {
+    struct dultxibe_times times;
     uint8_t source[6];
     uint8_t target[6];
     uint8_t reason;
@@ -111,7 +132,7 @@ struct dultxibe_transition {
 /* An RSNA event to be logged. method, the EAP method: eight octets where its first is 254, else that
  * one alone; what stands past them is not read. */
 struct dultxibe_rsna_event {
-    uint8_t time[9];
+    struct dultxibe_times times;
     uint8_t target[6];
     uint8_t authentication[4];
     uint8_t method[8];
@@ -121,7 +142,7 @@ struct dultxibe_rsna_event {
 /* A peer-to-peer link event to be logged. connection, the connection time, goes out as it is handed
  * in. */
 struct dultxibe_peer_link {
-    uint8_t time[9];
+    struct dultxibe_times times;
     uint8_t peer[6];
     uint8_t regulatory_class;
     uint8_t channel;
@@ -139,7 +160,7 @@ struct dultxibe_outcome {
 /* Sets up a station with an identity (a subelement list) and one to four requesters.
  * Accepted; or refused by BAD_REQUESTER_LIST or BAD_IDENTITY, with a station that has no requester. */
 struct dultxibe_outcome dultxibe_setup(const uint8_t *identity, size_t length,
-                                       const uint8_t (*requesters)[6], size_t count);
+                                       const struct dultxibe_requester *requesters, size_t count);
 
 /* A bare clock reading: advances the station's time by the reading's difference from the call before,
  * modulo 2^32, then drops each unanswered diagnostic that is late, as every call below does first. The
@@ -167,22 +188,23 @@ struct dultxibe_outcome dultxibe_frame(struct dultxibe_station station, uint32_t
                                        const uint8_t destination[6], const uint8_t source[6],
                                        const uint8_t *frame, size_t length);
 
-/* Writes the next report frame of a kind for a requester at the front of the buffer. The length of
- * the frame, at most 2,304, octets past it as they were; or nothing; or refused by UNKNOWN_REQUESTER
- * or SHORT_BUFFER, the buffer as it was. Elements go in the request's order, the events of each newest
- * first; what does not fit is left for the next call. */
+/* Writes the next report frame of a kind for a requester, in its form, at the front of the buffer. The
+ * length of the frame, at most 2,304, octets past it as they were; or nothing; or refused by
+ * UNKNOWN_REQUESTER or SHORT_BUFFER, the buffer as it was. Elements go in the request's order, the
+ * events of each newest first; what does not fit is left for the next call. */
 struct dultxibe_outcome dultxibe_report(struct dultxibe_station station, uint32_t reading,
                                         const uint8_t requester[6], uint8_t kind, uint8_t *buffer,
                                         size_t length);
 
-/* A move inside the network: names the requesters anew, drops every request, keeps the log.
- * Accepted; or refused by BAD_REQUESTER_LIST, or BAD_IDENTITY (the station has none). */
+/* A move inside the network: names the requesters anew, with their forms, drops every request, keeps
+ * the log. Accepted; or refused by BAD_REQUESTER_LIST, or BAD_IDENTITY (the station has none). */
 struct dultxibe_outcome dultxibe_roam(struct dultxibe_station station, uint32_t reading,
-                                      const uint8_t (*requesters)[6], size_t count);
+                                      const struct dultxibe_requester *requesters, size_t count);
 
 /* A network change: the same, and empties the log. */
 struct dultxibe_outcome dultxibe_change_network(struct dultxibe_station station, uint32_t reading,
-                                                const uint8_t (*requesters)[6], size_t count);
+                                                const struct dultxibe_requester *requesters,
+                                                size_t count);
 
 /* Why an event of the log is absent from the reports of a request element: the first reason that
  * applies, in this order. */
@@ -280,9 +302,10 @@ struct dultxibe_step {
     struct dultxibe_report_element element;
 };
 
-/* A reported transition; took is its transition time in TUs. */
+/* A reported transition; took is its transition time in TUs. Of times, here and below, the fields that
+ * the report's form does not carry are zeros. */
 struct dultxibe_transition_report {
-    uint8_t time[9];
+    struct dultxibe_times times;
     uint8_t source[6];
     uint8_t target[6];
     uint16_t took;
@@ -294,7 +317,7 @@ struct dultxibe_transition_report {
 /* A reported RSNA event. method has zeros past its length. rsn_length is 22, or 0 where there is no RSN
  * element, and rsn all zeros. */
 struct dultxibe_rsna_report {
-    uint8_t time[9];
+    struct dultxibe_times times;
     uint8_t target[6];
     uint8_t authentication[4];
     uint8_t method[8];
@@ -305,7 +328,7 @@ struct dultxibe_rsna_report {
 
 /* A reported peer-to-peer link event. */
 struct dultxibe_peer_link_report {
-    uint8_t time[9];
+    struct dultxibe_times times;
     uint8_t peer[6];
     uint8_t regulatory_class;
     uint8_t channel;
@@ -323,25 +346,30 @@ enum { DULTXIBE_FIRST_ELEMENT = 3 };
 struct dultxibe_reply dultxibe_write_request(struct dultxibe_request request, uint8_t *buffer,
                                              size_t length);
 
-/* Validates a whole report frame: cause 0; or refused by GROUP_DESTINATION, BAD_FRAME_LENGTH,
- * BAD_HEADER, ELEMENT_PAST_END, SHORT_ELEMENT, BAD_REPORT_BODY, BAD_TIME or BAD_SUBELEMENT. */
-struct dultxibe_report_frame dultxibe_read_report(const uint8_t destination[6],
+/* Validates a whole report frame in a form: cause 0; or refused by BAD_REQUESTER_LIST (the form is
+ * none), GROUP_DESTINATION, BAD_FRAME_LENGTH, BAD_HEADER, ELEMENT_PAST_END, SHORT_ELEMENT,
+ * BAD_REPORT_BODY, BAD_TIME (DULTXIBE_DRAFT alone) or BAD_SUBELEMENT. */
+struct dultxibe_report_frame dultxibe_read_report(uint8_t form, const uint8_t destination[6],
                                                   const uint8_t *frame, size_t length);
 
-/* Reads what stands at a position of a report frame of a kind, from DULTXIBE_FIRST_ELEMENT and then
- * each step's next, while that is below length. Refused by ELEMENT_PAST_END, SHORT_ELEMENT,
- * BAD_REPORT_BODY, BAD_TIME or BAD_SUBELEMENT where the frame is. */
-struct dultxibe_step dultxibe_next_element(uint8_t kind, size_t position, const uint8_t *frame,
-                                           size_t length);
+/* Reads what stands at a position of a report frame of a kind, in a form, from DULTXIBE_FIRST_ELEMENT
+ * and then each step's next, while that is below length. Refused by BAD_REQUESTER_LIST, at 0, where the
+ * form is none; else by ELEMENT_PAST_END, SHORT_ELEMENT, BAD_REPORT_BODY, BAD_TIME or BAD_SUBELEMENT
+ * where the frame is. */
+struct dultxibe_step dultxibe_next_element(uint8_t form, uint8_t kind, size_t position,
+                                           const uint8_t *frame, size_t length);
 
 /* The fields of an event of each type, from the octets behind the status of a logged element: at rest,
- * length of them. Of any other octets a field is what stands in its place, 0 past the end, and
- * rsn_length how many stand behind the result. */
-struct dultxibe_transition_report dultxibe_read_transition(const uint8_t *octets, size_t length);
+ * length of them, in the form that it was read in; any number but 0 is taken for DULTXIBE_PUBLISHED. Of
+ * any other octets a field is what stands in its place, 0 past the end, and rsn_length how many stand
+ * behind the result. */
+struct dultxibe_transition_report dultxibe_read_transition(uint8_t form, const uint8_t *octets,
+                                                           size_t length);
 
-struct dultxibe_rsna_report dultxibe_read_rsna(const uint8_t *octets, size_t length);
+struct dultxibe_rsna_report dultxibe_read_rsna(uint8_t form, const uint8_t *octets, size_t length);
 
-struct dultxibe_peer_link_report dultxibe_read_peer_link(const uint8_t *octets, size_t length);
+struct dultxibe_peer_link_report dultxibe_read_peer_link(uint8_t form, const uint8_t *octets,
+                                                         size_t length);
 
 /* ---- sizes and offsets */
 
@@ -365,27 +393,35 @@ DULTXIBE_AT(dultxibe_explanation, condition, 1);
 DULTXIBE_AT(dultxibe_explanation, cause, 2);
 DULTXIBE_AT(dultxibe_explanation, place, 8);
 
-DULTXIBE_SIZE(dultxibe_transition, 32);
-DULTXIBE_AT(dultxibe_transition, source, 9);
-DULTXIBE_AT(dultxibe_transition, target, 15);
-DULTXIBE_AT(dultxibe_transition, reason, 21);
-DULTXIBE_AT(dultxibe_transition, result, 22);
-DULTXIBE_AT(dultxibe_transition, signals, 24);
-DULTXIBE_AT(dultxibe_transition, departure, 28);
+DULTXIBE_SIZE(dultxibe_requester, 7);
+DULTXIBE_AT(dultxibe_requester, form, 6);
 
-DULTXIBE_SIZE(dultxibe_rsna_event, 28);
-DULTXIBE_AT(dultxibe_rsna_event, target, 9);
-DULTXIBE_AT(dultxibe_rsna_event, authentication, 15);
-DULTXIBE_AT(dultxibe_rsna_event, method, 19);
-DULTXIBE_AT(dultxibe_rsna_event, result, 27);
+DULTXIBE_SIZE(dultxibe_times, 32);
+DULTXIBE_AT(dultxibe_times, tsf, 9);
+DULTXIBE_AT(dultxibe_times, utc_offset, 17);
+DULTXIBE_AT(dultxibe_times, time_error, 27);
 
-DULTXIBE_SIZE(dultxibe_peer_link, 22);
-DULTXIBE_AT(dultxibe_peer_link, peer, 9);
-DULTXIBE_AT(dultxibe_peer_link, regulatory_class, 15);
-DULTXIBE_AT(dultxibe_peer_link, channel, 16);
-DULTXIBE_AT(dultxibe_peer_link, power, 17);
-DULTXIBE_AT(dultxibe_peer_link, connection, 18);
-DULTXIBE_AT(dultxibe_peer_link, status, 21);
+DULTXIBE_SIZE(dultxibe_transition, 56);
+DULTXIBE_AT(dultxibe_transition, source, 32);
+DULTXIBE_AT(dultxibe_transition, target, 38);
+DULTXIBE_AT(dultxibe_transition, reason, 44);
+DULTXIBE_AT(dultxibe_transition, result, 46);
+DULTXIBE_AT(dultxibe_transition, signals, 48);
+DULTXIBE_AT(dultxibe_transition, departure, 52);
+
+DULTXIBE_SIZE(dultxibe_rsna_event, 51);
+DULTXIBE_AT(dultxibe_rsna_event, target, 32);
+DULTXIBE_AT(dultxibe_rsna_event, authentication, 38);
+DULTXIBE_AT(dultxibe_rsna_event, method, 42);
+DULTXIBE_AT(dultxibe_rsna_event, result, 50);
+
+DULTXIBE_SIZE(dultxibe_peer_link, 45);
+DULTXIBE_AT(dultxibe_peer_link, peer, 32);
+DULTXIBE_AT(dultxibe_peer_link, regulatory_class, 38);
+DULTXIBE_AT(dultxibe_peer_link, channel, 39);
+DULTXIBE_AT(dultxibe_peer_link, power, 40);
+DULTXIBE_AT(dultxibe_peer_link, connection, 41);
+DULTXIBE_AT(dultxibe_peer_link, status, 44);
 
 DULTXIBE_AT(dultxibe_outcome, reply, sizeof(struct dultxibe_station));
 
@@ -423,29 +459,29 @@ DULTXIBE_AT(dultxibe_step, rest, 16);
 DULTXIBE_AT(dultxibe_step, next, 24);
 DULTXIBE_AT(dultxibe_step, element, 32);
 
-DULTXIBE_SIZE(dultxibe_transition_report, 32);
-DULTXIBE_AT(dultxibe_transition_report, source, 9);
-DULTXIBE_AT(dultxibe_transition_report, target, 15);
-DULTXIBE_AT(dultxibe_transition_report, took, 22);
-DULTXIBE_AT(dultxibe_transition_report, reason, 24);
-DULTXIBE_AT(dultxibe_transition_report, result, 26);
-DULTXIBE_AT(dultxibe_transition_report, signals, 28);
+DULTXIBE_SIZE(dultxibe_transition_report, 54);
+DULTXIBE_AT(dultxibe_transition_report, source, 32);
+DULTXIBE_AT(dultxibe_transition_report, target, 38);
+DULTXIBE_AT(dultxibe_transition_report, took, 44);
+DULTXIBE_AT(dultxibe_transition_report, reason, 46);
+DULTXIBE_AT(dultxibe_transition_report, result, 48);
+DULTXIBE_AT(dultxibe_transition_report, signals, 50);
 
-DULTXIBE_SIZE(dultxibe_rsna_report, 64);
-DULTXIBE_AT(dultxibe_rsna_report, target, 9);
-DULTXIBE_AT(dultxibe_rsna_report, authentication, 15);
-DULTXIBE_AT(dultxibe_rsna_report, method, 19);
-DULTXIBE_AT(dultxibe_rsna_report, result, 27);
-DULTXIBE_AT(dultxibe_rsna_report, rsn, 28);
-DULTXIBE_AT(dultxibe_rsna_report, rsn_length, 56);
+DULTXIBE_SIZE(dultxibe_rsna_report, 88);
+DULTXIBE_AT(dultxibe_rsna_report, target, 32);
+DULTXIBE_AT(dultxibe_rsna_report, authentication, 38);
+DULTXIBE_AT(dultxibe_rsna_report, method, 42);
+DULTXIBE_AT(dultxibe_rsna_report, result, 50);
+DULTXIBE_AT(dultxibe_rsna_report, rsn, 51);
+DULTXIBE_AT(dultxibe_rsna_report, rsn_length, 80);
 
-DULTXIBE_SIZE(dultxibe_peer_link_report, 22);
-DULTXIBE_AT(dultxibe_peer_link_report, peer, 9);
-DULTXIBE_AT(dultxibe_peer_link_report, regulatory_class, 15);
-DULTXIBE_AT(dultxibe_peer_link_report, channel, 16);
-DULTXIBE_AT(dultxibe_peer_link_report, power, 17);
-DULTXIBE_AT(dultxibe_peer_link_report, connection, 18);
-DULTXIBE_AT(dultxibe_peer_link_report, status, 21);
+DULTXIBE_SIZE(dultxibe_peer_link_report, 45);
+DULTXIBE_AT(dultxibe_peer_link_report, peer, 32);
+DULTXIBE_AT(dultxibe_peer_link_report, regulatory_class, 38);
+DULTXIBE_AT(dultxibe_peer_link_report, channel, 39);
+DULTXIBE_AT(dultxibe_peer_link_report, power, 40);
+DULTXIBE_AT(dultxibe_peer_link_report, connection, 41);
+DULTXIBE_AT(dultxibe_peer_link_report, status, 44);
 
 #undef DULTXIBE_SIZE
 #undef DULTXIBE_AT

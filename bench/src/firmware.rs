@@ -14,7 +14,7 @@ pub struct Reply {
 #[derive(Clone, Copy)]
 #[repr(C)]
 pub struct Station {
-    opaque: [u64; 813],
+    opaque: [u64; 981],
 }
 
 #[derive(Clone, Copy)]
@@ -26,8 +26,24 @@ pub struct Outcome {
 
 #[derive(Clone, Copy)]
 #[repr(C)]
-pub struct Transition {
+pub struct Requester {
+    pub address: [u8; 6],
+    pub form: u8,
+}
+
+#[derive(Clone, Copy)]
+#[repr(C)]
+pub struct Times {
     pub time: [u8; 9],
+    pub tsf: [u8; 8],
+    pub utc_offset: [u8; 10],
+    pub time_error: [u8; 5],
+}
+
+#[derive(Clone, Copy)]
+#[repr(C)]
+pub struct Transition {
+    pub times: Times,
     pub source: [u8; 6],
     pub target: [u8; 6],
     pub reason: u8,
@@ -39,7 +55,7 @@ pub struct Transition {
 #[derive(Clone, Copy)]
 #[repr(C)]
 pub struct RsnaEvent {
-    pub time: [u8; 9],
+    pub times: Times,
     pub target: [u8; 6],
     pub authentication: [u8; 4],
     pub method: [u8; 8],
@@ -49,7 +65,7 @@ pub struct RsnaEvent {
 #[derive(Clone, Copy)]
 #[repr(C)]
 pub struct PeerLink {
-    pub time: [u8; 9],
+    pub times: Times,
     pub peer: [u8; 6],
     pub class: u8,
     pub channel: u8,
@@ -93,7 +109,7 @@ pub struct Step {
 #[derive(Clone, Copy)]
 #[repr(C)]
 pub struct TransitionReport {
-    pub time: [u8; 9],
+    pub times: Times,
     pub source: [u8; 6],
     pub target: [u8; 6],
     pub took: u16,
@@ -105,7 +121,7 @@ pub struct TransitionReport {
 #[derive(Clone, Copy)]
 #[repr(C)]
 pub struct RsnaReport {
-    pub time: [u8; 9],
+    pub times: Times,
     pub target: [u8; 6],
     pub authentication: [u8; 4],
     pub method: [u8; 8],
@@ -117,7 +133,7 @@ pub struct RsnaReport {
 #[derive(Clone, Copy)]
 #[repr(C)]
 pub struct PeerLinkReport {
-    pub time: [u8; 9],
+    pub times: Times,
     pub peer: [u8; 6],
     pub class: u8,
     pub channel: u8,
@@ -126,13 +142,14 @@ pub struct PeerLinkReport {
     pub status: u8,
 }
 
-const _: () = assert!(size_of::<Reply>() == 24 && size_of::<Station>() == 6504);
-const _: () = assert!(size_of::<Outcome>() == 6528 && size_of::<Transition>() == 32);
-const _: () = assert!(size_of::<RsnaEvent>() == 28 && size_of::<PeerLink>() == 22);
+const _: () = assert!(size_of::<Reply>() == 24 && size_of::<Station>() == 7848);
+const _: () = assert!(size_of::<Outcome>() == 7872 && size_of::<Transition>() == 56);
+const _: () = assert!(size_of::<Requester>() == 7 && size_of::<Times>() == 32);
+const _: () = assert!(size_of::<RsnaEvent>() == 51 && size_of::<PeerLink>() == 45);
 const _: () = assert!(size_of::<ReportFrame>() == 24 && size_of::<Step>() == 56);
 const _: () = assert!(offset_of!(Step, element) == 32 && size_of::<Element>() == 24);
-const _: () = assert!(size_of::<TransitionReport>() == 32 && size_of::<PeerLinkReport>() == 22);
-const _: () = assert!(size_of::<RsnaReport>() == 64 && offset_of!(RsnaReport, rsn_length) == 56);
+const _: () = assert!(size_of::<TransitionReport>() == 54 && size_of::<PeerLinkReport>() == 45);
+const _: () = assert!(size_of::<RsnaReport>() == 88 && offset_of!(RsnaReport, rsn_length) == 80);
 
 // C returns an outcome through a pointer that goes before the parameters and comes back (x86-64, System
 // V): named here, so that the outcome is written where the caller keeps it and no copy is added.
@@ -141,7 +158,7 @@ extern "C" {
         outcome: *mut Outcome,
         identity: *const u8,
         length: usize,
-        requesters: *const [u8; 6],
+        requesters: *const Requester,
         count: usize,
     ) -> *mut Outcome;
     pub fn dultxibe_tick(outcome: *mut Outcome, station: Station, reading: u32) -> *mut Outcome;
@@ -187,20 +204,20 @@ extern "C" {
         outcome: *mut Outcome,
         station: Station,
         reading: u32,
-        requesters: *const [u8; 6],
+        requesters: *const Requester,
         count: usize,
     ) -> *mut Outcome;
     pub fn dultxibe_change_network(
         outcome: *mut Outcome,
         station: Station,
         reading: u32,
-        requesters: *const [u8; 6],
+        requesters: *const Requester,
         count: usize,
     ) -> *mut Outcome;
-    pub fn dultxibe_read_report(destination: *const [u8; 6], frame: *const u8, length: usize) -> ReportFrame;
-    pub fn dultxibe_next_element(kind: u8, position: usize, frame: *const u8, length: usize) -> Step;
-    pub fn dultxibe_read_transition(octets: *const u8, length: usize) -> TransitionReport;
-    pub fn dultxibe_read_rsna(octets: *const u8, length: usize) -> RsnaReport;
-    pub fn dultxibe_read_peer_link(octets: *const u8, length: usize) -> PeerLinkReport;
+    pub fn dultxibe_read_report(form: u8, destination: *const [u8; 6], frame: *const u8, length: usize) -> ReportFrame;
+    pub fn dultxibe_next_element(form: u8, kind: u8, position: usize, frame: *const u8, length: usize) -> Step;
+    pub fn dultxibe_read_transition(form: u8, octets: *const u8, length: usize) -> TransitionReport;
+    pub fn dultxibe_read_rsna(form: u8, octets: *const u8, length: usize) -> RsnaReport;
+    pub fn dultxibe_read_peer_link(form: u8, octets: *const u8, length: usize) -> PeerLinkReport;
     pub fn tus_of(age: u32) -> u16;
 }

@@ -33,26 +33,36 @@ type Answer = firmware::Reply;
 
 /// A station of either side.
 trait Side: Copy {
-    fn set_up() -> Self;
+    /// A console as a list names it.
+    type Listed;
+    fn listed(address: [u8; 6], form: u8) -> Self::Listed;
+    fn set_up(list: &[Self::Listed]) -> Self;
     fn tick(&mut self, reading: u32) -> Answer;
     fn log_transition(&mut self, reading: u32, t: &twin::Transition) -> Answer;
     fn log_rsna(&mut self, reading: u32, e: &twin::RsnaEvent, rsn: &[u8]) -> Answer;
     fn log_peer_link(&mut self, reading: u32, e: &twin::PeerLink) -> Answer;
     fn frame(&mut self, reading: u32, octets: &[u8]) -> Answer;
     fn report(&mut self, reading: u32, kind: u8, buffer: &mut [u8]) -> Answer;
-    fn roam(&mut self, reading: u32, list: &[[u8; 6]]) -> Answer;
-    fn change_network(&mut self, reading: u32, list: &[[u8; 6]]) -> Answer;
-    /// Validates a report frame, then reads its elements: the count, and a sum over their fields.
-    fn read(octets: &[u8]) -> (usize, u64);
+    fn roam(&mut self, reading: u32, list: &[Self::Listed]) -> Answer;
+    fn change_network(&mut self, reading: u32, list: &[Self::Listed]) -> Answer;
+    /// Validates a report frame in a form, then reads its elements: the count, and a sum over their fields.
+    fn read(form: u8, octets: &[u8]) -> (usize, u64);
     fn time_units(age: u32) -> u16;
 }
 
 /// The proved side: what the last call gave, with the station that the next call takes by value.
 impl Side for firmware::Outcome {
-    fn set_up() -> Self {
+    type Listed = firmware::Requester;
+
+    fn listed(address: [u8; 6], form: u8) -> firmware::Requester {
+        firmware::Requester { address, form }
+    }
+
+    fn set_up(list: &[firmware::Requester]) -> Self {
         let mut outcome = MaybeUninit::uninit();
+        let (identity, length) = (IDENTITY.as_ptr(), IDENTITY.len());
         unsafe {
-            firmware::dultxibe_setup(outcome.as_mut_ptr(), IDENTITY.as_ptr(), IDENTITY.len(), CONSOLES.as_ptr(), 4);
+            firmware::dultxibe_setup(outcome.as_mut_ptr(), identity, length, list.as_ptr(), list.len());
             outcome.assume_init()
         }
     }
@@ -66,7 +76,7 @@ impl Side for firmware::Outcome {
     #[inline(never)]
     fn log_transition(&mut self, reading: u32, t: &twin::Transition) -> Answer {
         let t = firmware::Transition {
-            time: t.time,
+            times: proved_times(&t.times),
             source: t.source,
             target: t.target,
             reason: t.reason,
@@ -81,7 +91,7 @@ impl Side for firmware::Outcome {
     #[inline(never)]
     fn log_rsna(&mut self, reading: u32, e: &twin::RsnaEvent, rsn: &[u8]) -> Answer {
         let e = firmware::RsnaEvent {
-            time: e.time,
+            times: proved_times(&e.times),
             target: e.target,
             authentication: e.authentication,
             method: e.method.0,
@@ -94,7 +104,7 @@ impl Side for firmware::Outcome {
     #[inline(never)]
     fn log_peer_link(&mut self, reading: u32, e: &twin::PeerLink) -> Answer {
         let e = firmware::PeerLink {
-            time: e.time,
+            times: proved_times(&e.times),
             peer: e.peer,
             class: e.class,
             channel: e.channel,
@@ -121,31 +131,32 @@ impl Side for firmware::Outcome {
     }
 
     #[inline(never)]
-    fn roam(&mut self, reading: u32, list: &[[u8; 6]]) -> Answer {
+    fn roam(&mut self, reading: u32, list: &[firmware::Requester]) -> Answer {
         unsafe { firmware::dultxibe_roam(self, self.station, reading, list.as_ptr(), list.len()) };
         self.reply
     }
 
     #[inline(never)]
-    fn change_network(&mut self, reading: u32, list: &[[u8; 6]]) -> Answer {
+    fn change_network(&mut self, reading: u32, list: &[firmware::Requester]) -> Answer {
         unsafe { firmware::dultxibe_change_network(self, self.station, reading, list.as_ptr(), list.len()) };
         self.reply
     }
 
-    fn read(octets: &[u8]) -> (usize, u64) {
-        let report = unsafe { firmware::dultxibe_read_report(&GATE, octets.as_ptr(), octets.len()) };
+    fn read(form: u8, octets: &[u8]) -> (usize, u64) {
+        let (start, length) = (octets.as_ptr(), octets.len());
+        let report = unsafe { firmware::dultxibe_read_report(form, &GATE, start, length) };
         if report.cause != 0 {
             return (0, report.cause as u64);
         }
         let (mut at, mut sum) = (3, 0);
-        while at < octets.len() {
-            let step = unsafe { firmware::dultxibe_next_element(report.kind, at, octets.as_ptr(), octets.len()) };
+        while at < length {
+            let step = unsafe { firmware::dultxibe_next_element(form, report.kind, at, start, length) };
             let e = &step.element;
             if step.found != 0 {
                 sum += e.token as u64 + e.ty as u64 + e.status as u64;
             }
             if e.logged != 0 {
-                sum += read_event(e.ty, &octets[step.rest..step.rest + e.length]);
+                sum += read_event(form, e.ty, &octets[step.rest..step.rest + e.length]);
             }
             at = step.next;
         }
@@ -157,22 +168,40 @@ impl Side for firmware::Outcome {
     }
 }
 
-/// A sum over the fields of an event of this type, from the octets behind its status.
-fn read_event(ty: u8, octets: &[u8]) -> u64 {
+fn proved_times(times: &twin::Times) -> firmware::Times {
+    firmware::Times { time: times.time, tsf: times.tsf, utc_offset: times.utc_offset, time_error: times.time_error }
+}
+
+/// A sum over the fields of an event of this type in a form, from the octets behind its status.
+fn read_event(form: u8, ty: u8, octets: &[u8]) -> u64 {
     let (start, length) = (octets.as_ptr(), octets.len());
-    match ty {
+    let (times, sum) = match ty {
         0 => {
-            let event = unsafe { firmware::dultxibe_read_transition(start, length) };
-            event.took as u64 + event.target[5] as u64 + event.result as u64
+            let event = unsafe { firmware::dultxibe_read_transition(form, start, length) };
+            (event.times, event.took as u64 + event.target[5] as u64 + event.result as u64)
         }
         1 => {
-            let event = unsafe { firmware::dultxibe_read_rsna(start, length) };
+            let event = unsafe { firmware::dultxibe_read_rsna(form, start, length) };
             let rsn = if event.rsn_length == 0 { 0 } else { event.rsn[21] };
-            event.method[0] as u64 + event.target[5] as u64 + event.result as u64 + rsn as u64
+            let sum = event.method[0] as u64 + event.target[5] as u64 + event.result as u64 + rsn as u64;
+            (event.times, sum)
         }
         _ => {
-            let event = unsafe { firmware::dultxibe_read_peer_link(start, length) };
-            event.channel as u64 + event.peer[5] as u64 + event.connection[0] as u64
+            let event = unsafe { firmware::dultxibe_read_peer_link(form, start, length) };
+            (event.times, event.channel as u64 + event.peer[5] as u64 + event.connection[0] as u64)
+        }
+    };
+    // Those that the form does not carry are zeros.
+    let published = times.tsf[2] as u64 + times.utc_offset[9] as u64 + times.time_error[0] as u64;
+    times.time[2] as u64 + published + sum
+}
+
+/// The same octets of the time fields that the twin read.
+fn sum_times(times: twin::ReportedTimes) -> u64 {
+    match times {
+        twin::ReportedTimes::Draft(time) => time[2] as u64,
+        twin::ReportedTimes::Published { tsf, utc_offset, time_error } => {
+            tsf[2] as u64 + utc_offset[9] as u64 + time_error[0] as u64
         }
     }
 }
@@ -197,8 +226,14 @@ fn kind(number: u8) -> twin::Kind {
 
 /// The calls are not inlined: the archive's are not either.
 impl Side for twin::Station {
-    fn set_up() -> Self {
-        twin::Station::set_up(&IDENTITY, &CONSOLES).0
+    type Listed = twin::Listed;
+
+    fn listed(address: [u8; 6], form: u8) -> twin::Listed {
+        twin::Listed { address, form }
+    }
+
+    fn set_up(list: &[twin::Listed]) -> Self {
+        twin::Station::set_up(&IDENTITY, list).0
     }
 
     #[inline(never)]
@@ -232,18 +267,18 @@ impl Side for twin::Station {
     }
 
     #[inline(never)]
-    fn roam(&mut self, reading: u32, list: &[[u8; 6]]) -> Answer {
+    fn roam(&mut self, reading: u32, list: &[twin::Listed]) -> Answer {
         answer(twin::Station::roam(self, reading, list))
     }
 
     #[inline(never)]
-    fn change_network(&mut self, reading: u32, list: &[[u8; 6]]) -> Answer {
+    fn change_network(&mut self, reading: u32, list: &[twin::Listed]) -> Answer {
         answer(twin::Station::change_network(self, reading, list))
     }
 
     #[inline(never)]
-    fn read(octets: &[u8]) -> (usize, u64) {
-        let report = match twin::read_report(&GATE, octets) {
+    fn read(form: u8, octets: &[u8]) -> (usize, u64) {
+        let report = match twin::read_report(form, &GATE, octets) {
             Ok(report) => report,
             Err(refusal) => return (0, refusal.number as u64),
         };
@@ -252,14 +287,15 @@ impl Side for twin::Station {
             sum += e.token as u64 + e.ty as u64 + e.status as u64;
             sum += match e.event() {
                 Some(twin::Event::Transition(event)) => {
-                    event.took as u64 + event.target[5] as u64 + event.result as u64
+                    sum_times(event.times) + event.took as u64 + event.target[5] as u64 + event.result as u64
                 }
                 Some(twin::Event::Rsna(event)) => {
                     let rsn = event.rsn.map_or(0, |rsn| rsn[21]);
-                    event.method[0] as u64 + event.target[5] as u64 + event.result as u64 + rsn as u64
+                    let sum = event.method[0] as u64 + event.target[5] as u64 + event.result as u64 + rsn as u64;
+                    sum_times(event.times) + sum
                 }
                 Some(twin::Event::PeerLink(event)) => {
-                    event.channel as u64 + event.peer[5] as u64 + event.connection[0] as u64
+                    sum_times(event.times) + event.channel as u64 + event.peer[5] as u64 + event.connection[0] as u64
                 }
                 None => 0,
             };
@@ -273,9 +309,18 @@ impl Side for twin::Station {
     }
 }
 
+fn times(n: u32) -> twin::Times {
+    twin::Times {
+        time: [231, 3, 59, 59, 23, 31, 12, 234, 7],
+        tsf: (n as u64 * 1_000_000).to_le_bytes(),
+        utc_offset: [234, 7, 12, 31, 23, 59, 59, 231, 3, n as u8],
+        time_error: [n as u8, 0, 0, 0, 0],
+    }
+}
+
 fn transition(n: u32) -> twin::Transition {
     twin::Transition {
-        time: [231, 3, 59, 59, 23, 31, 12, 234, 7],
+        times: times(n),
         source: [2, 1, 1, 1, 1, n as u8 % 4],
         target: [2, 1, 1, 1, 1, n as u8 % 8],
         reason: 6,
@@ -289,7 +334,7 @@ fn transition(n: u32) -> twin::Transition {
 fn rsna(n: u32) -> twin::RsnaEvent {
     let first = if n % 4 == 0 { 254 } else { 13 };
     twin::RsnaEvent {
-        time: [231, 3, 59, 59, 23, 31, 12, 234, 7],
+        times: times(n),
         target: [2, 1, 1, 1, 1, n as u8 % 8],
         authentication: [0, 15, 172, 1],
         method: twin::Method([first, 0, 80, 194, 1, 2, 3, n as u8]),
@@ -309,7 +354,7 @@ fn rsn(n: u32) -> &'static [u8] {
 
 fn peer_link(n: u32) -> twin::PeerLink {
     twin::PeerLink {
-        time: [231, 3, 59, 59, 23, 31, 12, 234, 7],
+        times: times(n),
         peer: [2, 1, 1, 1, 1, n as u8 % 8],
         class: 81,
         channel: n as u8 % 14,
@@ -375,6 +420,8 @@ enum Call {
 
 struct Case {
     name: &'static str,
+    /// The form that the consoles are listed with.
+    form: u8,
     log: Log,
     /// Frames taken in preparation.
     taken: Vec<Vec<u8>>,
@@ -382,7 +429,8 @@ struct Case {
 }
 
 fn cases() -> Vec<Case> {
-    let case = |name, log, taken, call| Case { name, log, taken, call };
+    let case = |name, log, taken, call| Case { name, form: 0, log, taken, call };
+    let published = |case| Case { form: 1, ..case };
     let all = || event_frame(&[element(5, 255, &[])]);
     let chosen = || event_frame(&[element(5, 8, &CONDITIONS)]);
     let all_rsna = || event_frame(&[element_of(1, 5, 255, &[])]);
@@ -401,6 +449,8 @@ fn cases() -> Vec<Case> {
         case("frame, 8 elements", Log::Transitions, vec![], Call::Frame(eight)),
         case("report, 8 of 64 events by conditions", Log::Transitions, vec![chosen()], Call::Report(0)),
         case("report, 64 events", Log::Transitions, vec![all()], Call::Report(0)),
+        // A frame has room for 46 of these; the other 18 are left for the next call.
+        published(case("report, 64 events, published form", Log::Transitions, vec![all()], Call::Report(0))),
         case(
             "report, 61 of 64 events by frequency",
             Log::Transitions,
@@ -416,14 +466,16 @@ fn cases() -> Vec<Case> {
         case("network change", Log::Transitions, vec![all()], Call::ChangeNetwork),
         case("read a report of 64 events", Log::Transitions, vec![all()], Call::Read),
         case("read a report of a mixed log of 64", Log::Mixed, vec![every_kind()], Call::Read),
+        // The frame of 46 transitions.
+        published(case("read a report, published form", Log::Transitions, vec![all()], Call::Read)),
         case("convert 64 ages below the cap", Log::Transitions, vec![], Call::Convert(below)),
         case("convert 64 ages above the cap", Log::Transitions, vec![], Call::Convert(above)),
     ]
 }
 
 /// A prepared station and, for a reading, the frame that it reads.
-fn prepare<S: Side>(case: &Case) -> (S, Vec<u8>) {
-    let mut station = S::set_up();
+fn prepare<S: Side>(case: &Case, list: &[S::Listed]) -> (S, Vec<u8>) {
+    let mut station = S::set_up(list);
     for n in 1..=64 {
         let answer = match (&case.log, n % 3) {
             (Log::Transitions, _) | (Log::Mixed, 0) => station.log_transition(n * 1000, &transition(n)),
@@ -452,6 +504,7 @@ struct Given {
 }
 
 struct Runner<S: Side> {
+    list: [S::Listed; 4],
     station: S,
     frame: Vec<u8>,
     places: Vec<S>,
@@ -461,10 +514,11 @@ struct Runner<S: Side> {
 
 impl<S: Side> Runner<S> {
     fn new(case: &Case) -> Runner<S> {
-        let (station, frame) = prepare::<S>(case);
+        let list = CONSOLES.map(|address| S::listed(address, case.form));
+        let (station, frame) = prepare::<S>(case, &list);
         let none = Answer { code: 9, cause: 0, place: 0, length: 0 };
         let given = Given { answers: [none; STATIONS], reads: [(0, 0); STATIONS], buffers: vec![vec![0xAA; 2304]; STATIONS] };
-        Runner { station, frame, places: vec![station; PLACES], first: 0, given }
+        Runner { list, station, frame, places: vec![station; PLACES], first: 0, given }
     }
 
     fn stations(&mut self) -> &mut [S] {
@@ -488,9 +542,9 @@ impl<S: Side> Runner<S> {
                 Call::LogPeerLink => given.answers[i] = station.log_peer_link(black_box(70_000), &peer_link(70)),
                 Call::Frame(octets) => given.answers[i] = station.frame(black_box(70_000), octets),
                 Call::Report(kind) => given.answers[i] = station.report(black_box(70_000), *kind, &mut given.buffers[i]),
-                Call::Roam => given.answers[i] = station.roam(black_box(70_000), black_box(&CONSOLES)),
-                Call::ChangeNetwork => given.answers[i] = station.change_network(black_box(70_000), black_box(&CONSOLES)),
-                Call::Read | Call::Convert(_) => given.reads[i] = read::<S>(&case.call, &self.frame),
+                Call::Roam => given.answers[i] = station.roam(black_box(70_000), black_box(&self.list)),
+                Call::ChangeNetwork => given.answers[i] = station.change_network(black_box(70_000), black_box(&self.list)),
+                Call::Read | Call::Convert(_) => given.reads[i] = read::<S>(case, &self.frame),
             }
         }
     }
@@ -522,10 +576,10 @@ fn probe<S: Side>(station: &mut S) -> Vec<(Answer, Vec<u8>)> {
 
 /// What a call without a station gives: of a frame its reading, of ages their count and the sum of their TUs.
 #[inline(never)]
-fn read<S: Side>(call: &Call, frame: &[u8]) -> (usize, u64) {
-    match call {
+fn read<S: Side>(case: &Case, frame: &[u8]) -> (usize, u64) {
+    match &case.call {
         Call::Convert(ages) => (ages.len(), black_box(ages).iter().map(|&age| S::time_units(age) as u64).sum()),
-        _ => S::read(black_box(frame)),
+        _ => S::read(case.form, black_box(frame)),
     }
 }
 

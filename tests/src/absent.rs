@@ -2,16 +2,17 @@
 //! nothing were logged and the request stayed", seen from outside: a program compared with itself.
 //!
 //! For a question of a trace, a newly set up gate logs the same events at the same readings. In between, when just as
-//! many of those that will be in the log have come as the question counts, it takes a request of that one element.
-//! Then the question is asked of every place, and report calls are made until there is nothing. The events tell their
-//! numbers by their years, which no condition looks at.
+//! many of those that will be in the log have come as the question counts, it takes a request of that one element from
+//! each of two consoles, one of either form. Then the question is asked of every place, and report calls are made
+//! until there is nothing. The events tell their numbers by their years and by their TSF, which no condition looks at.
 
 use crate::answers::answers;
-use crate::cases::{CONSOLE, IDENTITY};
+use crate::cases::{setup_of, CONSOLE};
 use crate::compare::{records_text, Difference};
 use crate::explain::Question;
+use crate::form::{draft, published, Console, EventTime, PublishedTime};
 use crate::make_identity::STATION;
-use crate::octets::{u16_of, Kind};
+use crate::octets::{u16_of, Address, Kind};
 use crate::program::Programs;
 use crate::read_back::given_frame;
 use crate::report::{read_report, Rest};
@@ -22,8 +23,8 @@ use crate::transition::Time;
 
 /// The least buffer, one that ends within an event, one for every event of 35 octets.
 pub const BUFFERS: [usize; 3] = [260, 333, 2304];
-/// With the least buffer a frame takes four events or more, so 64 take at most sixteen frames; then comes nothing.
-const CALLS: usize = 18;
+/// The consoles that ask: a request of one does not change what the other is given.
+const CONSOLES: [Console; 2] = [draft(CONSOLE), published([2, 0, 0, 0, 0, 2])];
 /// Questions of one trace that are asked so.
 const QUESTIONS: usize = 3;
 
@@ -99,16 +100,33 @@ pub fn questions(records: &[Vec<u8>], printed: &[u8]) -> Vec<About> {
     questions
 }
 
-/// The logging with this number as its year.
+/// The logging with this number as its year, and at the front of its TSF.
 fn with_number(mut record: Record, number: u16) -> Record {
-    let year = |time: &mut Time| time[7..].copy_from_slice(&number.to_le_bytes());
+    let write = |time: &mut Time, published: &mut PublishedTime| {
+        time[7..].copy_from_slice(&number.to_le_bytes());
+        published.tsf[..2].copy_from_slice(&number.to_le_bytes());
+    };
     match &mut record {
-        Record::Log { logging, .. } => year(&mut logging.time),
-        Record::LogRsna { logging, .. } => year(&mut logging.time),
-        Record::LogPeerLink { logging, .. } => year(&mut logging.time),
+        Record::Log { logging, .. } => write(&mut logging.time, &mut logging.published),
+        Record::LogRsna { logging, .. } => write(&mut logging.time, &mut logging.published),
+        Record::LogPeerLink { logging, .. } => write(&mut logging.time, &mut logging.published),
         _ => {}
     }
     record
+}
+
+/// The number that an event's time tells.
+fn number_of(time: &EventTime) -> usize {
+    usize::from(match time {
+        EventTime::Draft(time) => u16_of(&time[7..]),
+        EventTime::Published(published) => u16_of(&published.tsf),
+    })
+}
+
+/// More report calls than it takes: behind the header a frame has room for so many events of the longest kind, 69
+/// octets in form 1, that 64 are given in this many calls, and then comes nothing.
+fn calls(buffer: usize) -> usize {
+    64usize.div_ceil((buffer - 3) / 69) + 2
 }
 
 impl About {
@@ -117,7 +135,7 @@ impl About {
         self.loggings.min(64)
     }
 
-    /// The calls, with the request where its place is.
+    /// The calls, with the requests where their place is.
     fn with_request(&self) -> Vec<Record> {
         let before = self.length().min(usize::from(self.question.count));
         let mut left = self.loggings - self.length() + before;
@@ -129,8 +147,11 @@ impl About {
         let beside = self.calls[..at].last().or(self.calls.first());
         let reading = beside.and_then(Record::reading).unwrap_or(0);
         let octets = [&[10, 0, 7][..], &self.question.element].concat();
-        let request = Record::Frame { reading, destination: STATION, source: CONSOLE, octets };
-        [&self.calls[..at], &[request], &self.calls[at..]].concat()
+        let request = |console: Console| {
+            let (source, octets) = (console.address, octets.clone());
+            Record::Frame { reading, destination: STATION, source, octets }
+        };
+        [&self.calls[..at], &CONSOLES.map(request), &self.calls[at..]].concat()
     }
 
     /// The places that are asked of: all, and the one behind them; of a long element, which is always refused, one.
@@ -147,35 +168,46 @@ impl About {
         run: &dyn Fn(&[u8]) -> Vec<u8>,
         buffer: usize,
     ) -> Result<Explained, (String, String)> {
-        let mut records = vec![Record::Setup { identity: IDENTITY.to_vec(), list: vec![CONSOLE] }];
+        let mut records = vec![setup_of(&CONSOLES)];
         records.extend(self.with_request());
         let reading = records.last().and_then(Record::reading).unwrap_or(0);
         let ask = |place: usize| Question { position: place as u16, ..self.question.clone() };
         records.extend(self.places().into_iter().map(|place| Record::Explain(ask(place))));
-        let (console, kind) = (CONSOLE, Kind::Event);
-        records.extend((0..CALLS).map(|_| Record::Report { reading, console, kind, buffer, fill: 0 }));
+        let report = |console: Console| {
+            let (console, kind) = (console.address, Kind::Event);
+            Record::Report { reading, console, kind, buffer, fill: 0 }
+        };
+        records.extend((0..calls(buffer)).flat_map(|_| CONSOLES.map(report)));
         let octets: Vec<Vec<u8>> = records.iter().map(write_record).collect();
         let printed = run(&octets.concat());
         let printed = String::from_utf8_lossy(&printed);
         let answers = answers(&octets, &printed);
-        let of = |wanted: fn(&Record) -> bool| -> Vec<&str> {
+        let of = |wanted: &dyn Fn(&Record) -> bool| -> Vec<&str> {
             answers.iter().filter(|(record, _)| wanted(record)).map(|(_, answer)| *answer).collect()
         };
-        let lines = of(|record| matches!(record, Record::Explain(_)));
-        let frame = of(|record| matches!(record, Record::Frame { .. })).concat();
-        let reports = of(|record| matches!(record, Record::Report { .. }));
-        let expected = self.expected(&frame, &reports);
-        if same(&expected, &lines) {
-            let reported = lines.iter().filter(|line| **line == "reported\n").count();
-            let refused = usize::from(matches!(expected, Expected::Refused(_)));
-            return Ok(Explained { places: lines.len() * (1 - refused), reported, refused });
+        let lines = of(&|record| matches!(record, Record::Explain(_)));
+        let by = |own: Address| {
+            let frame =
+                of(&|record| matches!(record, Record::Frame { source, .. } if *source == own)).concat();
+            let reports = of(&|record| matches!(record, Record::Report { console, .. } if *console == own));
+            (frame, reports)
+        };
+        let mut refused = 0;
+        for console in CONSOLES {
+            let (frame, reports) = by(console.address);
+            let expected = self.expected(console.form, &frame, &reports);
+            if !same(&expected, &lines) {
+                return Err((format!("form {}: {expected:?}\n", console.form), lines.concat()));
+            }
+            refused = usize::from(matches!(expected, Expected::Refused(_)));
         }
-        Err((format!("{expected:?}\n"), lines.concat()))
+        let reported = lines.iter().filter(|line| **line == "reported\n").count();
+        Ok(Explained { places: lines.len() * (1 - refused), reported, refused })
     }
 
     /// What is to be explained, by the answers to the request and to the report calls: the places that were given; or
     /// the refusal, in the element and not in the frame.
-    fn expected(&self, frame: &str, reports: &[&str]) -> Expected {
+    fn expected(&self, form: u8, frame: &str, reports: &[&str]) -> Expected {
         let element = &self.question.element;
         let whole = matches!(element[..], [78, length, ..] if element.len() == 2 + usize::from(length));
         if !whole {
@@ -191,11 +223,11 @@ impl About {
         }
         let mut places = Vec::new();
         for octets in reports.iter().filter_map(|answer| given_frame(answer)) {
-            let elements = read_report(&STATION, &octets).map_or(Vec::new(), |frame| frame.elements);
+            let elements = read_report(form, &STATION, &octets).map_or(Vec::new(), |frame| frame.elements);
             for element in elements {
                 if let Rest::Event(time, _) = element.rest {
                     let dropped = self.loggings - self.length();
-                    places.push(usize::from(u16_of(&time[7..])).checked_sub(dropped).unwrap_or(usize::MAX));
+                    places.push(number_of(&time).checked_sub(dropped).unwrap_or(usize::MAX));
                 }
             }
         }

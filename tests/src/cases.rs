@@ -1,6 +1,7 @@
 //! Document 01's own cases, with what is printed worked out by hand from the paper; and traces at the
 //! limits of what `replay` reads.
 
+use crate::form::{draft, Console, PublishedTime};
 use crate::make_events::BSSIDS;
 use crate::make_identity::STATION;
 use crate::octets::{Address, Kind};
@@ -33,9 +34,14 @@ pub const IDENTITY: [u8; 17] = [13, 3, 0xA, 0xB, 0xC, 11, 1, 65, 12, 1, 66, 14, 
 /// The program's example.
 pub const EXAMPLE: [u8; 11] = [0x0A, 0, 7, 0x4E, 6, 5, 0, 4, 3, 1, 1];
 
-/// A station with one requester.
+/// A station with one requester, of form 0.
 pub fn setup() -> Record {
-    Record::Setup { identity: IDENTITY.to_vec(), list: vec![CONSOLE] }
+    setup_of(&[draft(CONSOLE)])
+}
+
+/// A station with these requesters.
+pub fn setup_of(list: &[Console]) -> Record {
+    Record::Setup { identity: IDENTITY.to_vec(), list: list.to_vec() }
 }
 
 /// A logging with result 0 and every other field given a value of its own.
@@ -48,11 +54,17 @@ pub fn logging(reading: u32, departure: u32) -> Record {
         result: 0,
         signal: [0x31, 0x32, 0x33, 0x34],
     };
-    Record::Log { reading, logging: Logging { time: TIME, transition, departure } }
+    Record::Log { reading, logging: Logging { time: TIME, published: PUBLISHED, transition, departure } }
 }
 
 /// 2026-12-31 23:59:58.999.
 pub const TIME: [u8; 9] = [0xE7, 3, 58, 59, 23, 31, 12, 0xEA, 7];
+/// The published time fields, every octet with a value of its own.
+pub const PUBLISHED: PublishedTime = PublishedTime {
+    tsf: [0xA1, 0xA2, 0xA3, 0xA4, 0xA5, 0xA6, 0xA7, 0xA8],
+    offset: [0xB1, 0xB2, 0xB3, 0xB4, 0xB5, 0xB6, 0xB7, 0xB8, 0xB9, 0xBA],
+    error: [0xC1, 0xC2, 0xC3, 0xC4, 0xC5],
+};
 
 /// A frame from the requester.
 pub fn frame(reading: u32, octets: &[u8]) -> Record {
@@ -162,7 +174,7 @@ pub fn cases() -> Vec<Case> {
         },
         Case {
             title: "the frequent one, read by the console's side",
-            input: Input::Report([&STATION[..], &event_report()].concat()),
+            input: Input::Report([&[0], &STATION[..], &event_report()].concat()),
             printed: format!(
                 "report 1 dialog 7 elements 1\nelement 79 token 5 type 0 status 0 time 2026-12-31 \
                  23:59:58.999 source 02:01:01:01:01:01 target 02:01:01:01:01:02 transition 1 reason 33 \
@@ -186,11 +198,13 @@ fn event_report() -> Vec<u8> {
 /// Empty and over-long input, each call before any setup, and traces as long as a trace may be.
 pub fn limits() -> Vec<Input> {
     let clock = write_record(&Record::Clock { reading: 0 });
-    let read = |octets: usize| write_record(&Record::Read { destination: STATION, octets: vec![0; octets] });
-    // Records of 9 octets and their frames, 262,144 octets in all.
+    let read = |octets: usize| {
+        write_record(&Record::Read { form: 0, destination: STATION, octets: vec![0; octets] })
+    };
+    // Records of 10 octets and their frames, 262,144 octets in all.
     let mut longest: Vec<Vec<u8>> = (0..63).map(|_| read(4096)).collect();
     let left = LONGEST_TRACE - longest.concat().len();
-    longest.push(read(left - 9));
+    longest.push(read(left - 10));
     let mut one_more = longest.clone();
     one_more.push(vec![1]);
     let mut cut_by_the_limit = longest.clone();
@@ -202,8 +216,8 @@ pub fn limits() -> Vec<Input> {
         logging(5, 5),
         frame(6, &EXAMPLE),
         Record::Roam { reading: 7, list: Vec::new() },
-        Record::Roam { reading: 7, list: vec![CONSOLE] },
-        Record::Change { reading: 8, list: vec![STATION] },
+        Record::Roam { reading: 7, list: vec![draft(CONSOLE)] },
+        Record::Change { reading: 8, list: vec![draft(STATION)] },
         frame(9, &EXAMPLE),
     ];
     let at_most = |length: usize| [vec![10, 0, 7, 0xDD, 255], vec![0; length - 5]].concat();
@@ -212,12 +226,9 @@ pub fn limits() -> Vec<Input> {
         Input::Frame(at_most(2304)),
         Input::Frame(at_most(2305)),
         Input::Frame(vec![10; 70_000]),
-        Input::Report(Vec::new()),
-        Input::Report(vec![1; 5]),
-        Input::Report(vec![2; 6]),
-        Input::Report([&STATION[..], &[10, 3, 0]].concat()),
-        Input::Report([&STATION[..], &vec![10; 2305]].concat()),
-        Input::Report([&[1; 6][..], &vec![10; 70_000]].concat()),
+        Input::Report([&[0], &STATION[..], &[10, 3, 0]].concat()),
+        Input::Report([&[1], &STATION[..], &vec![10; 2305]].concat()),
+        Input::Report([&[1; 7][..], &vec![10; 70_000]].concat()),
         Input::Trace(Vec::new()),
         trace(&before_setup),
         Input::Trace(longest),

@@ -1,8 +1,7 @@
 //! Cases of document 02's request (c), with what is printed worked out by hand from the papers.
 
-use crate::cases::{
-    event_element, frame, logging, nothing, report, reported, setup, trace, Case, CONSOLE, IDENTITY,
-};
+use crate::cases::{event_element, frame, logging, nothing, report, reported, setup, trace, Case, CONSOLE};
+use crate::form::draft;
 use crate::make_identity::STATION;
 use crate::octets::Kind;
 use crate::station::Logging;
@@ -136,7 +135,7 @@ fn refused_calls() -> Vec<Case> {
 
 /// Moves, network changes, setups and transition times.
 fn time_that_is_kept() -> Vec<Case> {
-    let list = || vec![CONSOLE];
+    let list = || vec![draft(CONSOLE)];
     let roam = |reading| Record::Roam { reading, list: list() };
     let change = |reading| Record::Change { reading, list: list() };
     let second = format!("0a0107{}", event_element(1));
@@ -161,7 +160,7 @@ fn time_that_is_kept() -> Vec<Case> {
             &[
                 logging(0, 0),
                 clock(HALF),
-                Record::Setup { identity: IDENTITY.to_vec(), list: list() },
+                setup(),
                 logging(MINUTE, MINUTE),
                 logging(2 * MINUTE, 2 * MINUTE - 2),
                 frame(2 * MINUTE, &ask_frequent(1)),

@@ -53,7 +53,7 @@ pub fn compare_frame(programs: &Programs, tally: &Tally, input: &[u8]) -> Result
     compare_octets(programs, tally, "frame", input, list_request)
 }
 
-/// The program `report` on a destination and one report frame.
+/// The program `report` on a form, a destination and one report frame.
 pub fn compare_report(programs: &Programs, tally: &Tally, input: &[u8]) -> Result<(), Difference> {
     compare_octets(programs, tally, "report", input, list_report_input)
 }

@@ -1,26 +1,31 @@
-//! What a trace had of requests (a), (c), (d) and (f) of document 02, counted beside the second gate's run of it: a
-//! case that no trace had could not have failed.
+//! What a trace had of requests (a), (c), (d), (f) and (g) of document 02, counted beside the second gate's run of
+//! it: a case that no trace had could not have failed.
 
 use crate::clock::{age, TURN};
 use crate::condition::{is_near, transitions, Condition};
 use crate::event_body::{is_reported, EventBody};
 use crate::event_request::Event;
 use crate::explained::{self, shown, Shown};
-use crate::octets::{part_at, Kind, HEADER};
+use crate::form::{Console, EventTime, Form};
+use crate::make_reports::method_place;
+use crate::octets::{is_group, part_at, Address, Kind, HEADER};
 use crate::order::Due;
 use crate::report::{read_report, ReportElement, ReportFrame, Rest};
 use crate::request::{count_subelements, read_request, RequestElement, Wanted};
 use crate::rsna::{rsn_is_good, EapMethod, RsnaLogging};
+use crate::setup::{addresses_are_good, list_is_good};
 use crate::station::Station;
 use crate::trace::Record;
 use crate::transition::time_is_good;
 use std::collections::BTreeMap;
 
 /// The event types 0, 1 and 2.
-const KINDS: [&str; 3] = ["transition", "RSNA event", "peer link"];
+pub const KINDS: [&str; 3] = ["transition", "RSNA event", "peer link"];
+/// The forms 0 and 1.
+pub const FORMS: [&str; 2] = ["draft", "published"];
 
 /// What every kind must have had: logged, asked for, reported, in order, written, read.
-const OF_EVERY_KIND: [&str; 25] = [
+const OF_EVERY_KIND: [&str; 30] = [
     "logged",
     "logging refused by 14",
     "dropped for one of its kind",
@@ -30,7 +35,8 @@ const OF_EVERY_KIND: [&str; 25] = [
     "subelement past the end (7)",
     "subelement of wrong length (7)",
     "subelement repeated (8)",
-    "reported",
+    "reported, draft",
+    "reported, published",
     "none to report",
     "behind a newer one",
     "behind a newer one with its stamp",
@@ -40,7 +46,11 @@ const OF_EVERY_KIND: [&str; 25] = [
     "the last of the limit, an older one left",
     "no older than the last of an element before",
     "request written",
-    "read",
+    "read, draft",
+    "read, published",
+    "read, published, its front a wrong time",
+    "draft, told published (17)",
+    "published, told draft (17)",
     "read without event",
     "read with status 1 to 4",
     "wrong body (17)",
@@ -71,7 +81,9 @@ const CONDITIONS: [&str; 15] = [
 const OF_EVERY_CONDITION: [&str; 2] = ["let through", "held back by it alone"];
 
 /// What is not said of every kind or condition.
-const OTHERS: [(&str, &[&str]); 10] = [
+const OTHERS: [(&str, &[&str]); 13] = [
+    ("console list", &LISTS),
+    ("reader", &READERS),
     ("frequent", &FREQUENT),
     ("call", &CALLS),
     (
@@ -81,13 +93,47 @@ const OTHERS: [(&str, &[&str]); 10] = [
     ("EAP method logged", &["of 8 octets", "of 1 octet, garbage behind it"]),
     ("EAP method asked for", &["254 with 1 octet (7)", "another with 8 octets (7)", "of 0, 2 to 7 or 9 (7)"]),
     ("EAP method written", &["of 8 octets", "of 1 octet, garbage behind it"]),
-    ("RSNA event reported", &["24", "31", "46", "53"]),
-    ("RSNA event read", &["24", "31", "46", "53", "254 in 24 or 46 (17)", "another in 31 or 53 (17)"]),
+    ("RSNA event reported", &RSNA_BODIES),
+    ("RSNA event read", &RSNA_BODIES),
+    (
+        "RSNA event refused",
+        &[
+            "254 in 24 or 46 (17)",
+            "another in 31 or 53 (17)",
+            "254 in 38 or 60 (17)",
+            "another in 45 or 67 (17)",
+        ],
+    ),
     (
         "type 3 and up",
         &["body that is no subelement list", "answered Incapable", "written with none", "kept unread"],
     ),
     ("log, frame, trace", &WHOLES),
+];
+
+/// The body lengths of an RSNA event: of the draft form, and of the published one.
+const RSNA_BODIES: [&str; 8] = ["24", "31", "46", "53", "38", "45", "60", "67"];
+
+/// Console lists and their forms.
+const LISTS: [&str; 9] = [
+    "of both forms, setup",
+    "of both forms, move",
+    "of both forms, network change",
+    "a form alone is wrong, setup (15)",
+    "a form alone is wrong, move (15)",
+    "a form alone is wrong, network change (15)",
+    "repeated with another form (15)",
+    "a form changed, move",
+    "a form changed, network change",
+];
+
+/// What the report reader was told.
+const READERS: [&str; 5] = [
+    "told draft, no event",
+    "told published, no event",
+    "told no form (15)",
+    "told no form, group destination (15)",
+    "told no form, frame under 3 octets (15)",
 ];
 
 /// What a frequent condition counts: transitions alone, and by elapsed time.
@@ -186,7 +232,7 @@ impl Covered {
     /// What a report call will choose from: each condition by what it does to the events of its element's type.
     pub fn before(&mut self, station: &Station, record: &Record) {
         let Record::Report { console, kind: Kind::Event, buffer: 260.., .. } = record else { return };
-        let Some(request) = station.event_request(console) else { return };
+        let Some((request, _)) = station.event_request(console) else { return };
         let log = station.log();
         if request.next(log).is_none() && !request.elements.is_empty() {
             self.saw_whole("bare header, the rest dropped");
@@ -259,7 +305,7 @@ impl Covered {
         if station.elapsed() >= 3 * TURN {
             self.saw("call", "in the fourth turn since setup");
         }
-        if !station.has_requesters() {
+        if station.listed().is_empty() {
             self.saw("call", "on a gate with no console, after a turn");
         }
         match record {
@@ -292,14 +338,55 @@ impl Covered {
             Record::Write { kind: Kind::Event, wanted, .. } if printed.starts_with("length ") => {
                 wanted.iter().for_each(|element| self.written(element));
             }
-            Record::Read { destination, octets } => match read_report(destination, octets) {
-                Ok(frame) => frame.elements.iter().for_each(|element| self.read(element)),
-                Err(refusal) => self.refused_report(octets, refusal.number, refusal.place),
+            Record::Read { form, destination, octets } => match Form::of(*form) {
+                Some(form) => self.told(form, destination, octets),
+                None => self.told_no_form(destination, octets),
             },
             _ => {}
         }
         if let Some(frame) = chosen {
             self.given(frame, printed);
+        }
+    }
+
+    /// A list that a call carries, beside the consoles `before` it.
+    pub fn listed(&mut self, before: &[(Address, Form)], record: &Record, printed: &str) {
+        let (list, [mixed, wrong_form]) = match record {
+            Record::Setup { list, .. } => {
+                (list, ["of both forms, setup", "a form alone is wrong, setup (15)"])
+            }
+            Record::Roam { list, .. } => (list, ["of both forms, move", "a form alone is wrong, move (15)"]),
+            Record::Change { list, .. } => {
+                (list, ["of both forms, network change", "a form alone is wrong, network change (15)"])
+            }
+            _ => return,
+        };
+        let addresses: Vec<Address> = list.iter().map(|console| console.address).collect();
+        if !list_is_good(list) && addresses_are_good(&addresses) {
+            self.saw("console list", wrong_form);
+        }
+        let same_other =
+            |one: &Console, other: &Console| one.address == other.address && one.form != other.form;
+        if list.len() <= 4 && list.iter().any(|one| list.iter().any(|other| same_other(one, other))) {
+            self.saw("console list", "repeated with another form (15)");
+        }
+        if printed != "accepted\n" {
+            return;
+        }
+        if list.iter().any(|console| console.form != list[0].form) {
+            self.saw("console list", mixed);
+        }
+        let changed = |console: &Console| {
+            before.iter().any(|(address, form)| *address == console.address && form.number() != console.form)
+        };
+        match record {
+            Record::Roam { .. } if list.iter().any(changed) => {
+                self.saw("console list", "a form changed, move");
+            }
+            Record::Change { .. } if list.iter().any(changed) => {
+                self.saw("console list", "a form changed, network change");
+            }
+            _ => {}
         }
     }
 
@@ -456,9 +543,9 @@ impl Covered {
         }
         for ReportElement { ty, status, rest, .. } in &frame.elements {
             match (rest, status) {
-                (Rest::Event(_, body), _) => {
-                    self.saw_kind(*ty, "reported");
-                    self.rsna_length("RSNA event reported", body);
+                (Rest::Event(time, body), _) => {
+                    self.saw_kind(*ty, in_form(time.form(), "reported, draft", "reported, published"));
+                    self.rsna_length("RSNA event reported", time, body);
                 }
                 (Rest::Nothing, 0) => self.saw_kind(*ty, "none to report"),
                 (Rest::Nothing, _) => self.saw("type 3 and up", "answered Incapable"),
@@ -467,18 +554,39 @@ impl Covered {
         }
     }
 
-    /// The four body lengths of an RSNA event: token, type and status, 9 of time, and its own.
-    fn rsna_length(&mut self, name: &'static str, body: &EventBody) {
+    /// The body length of an RSNA event: token, type and status, its time, and its own.
+    fn rsna_length(&mut self, name: &'static str, time: &EventTime, body: &EventBody) {
         if let EventBody::Rsna(_) = body {
-            self.saw(
-                name,
-                match 12 + body.octets().len() {
-                    24 => "24",
-                    31 => "31",
-                    46 => "46",
-                    _ => "53",
-                },
-            );
+            let length = (3 + time.octets().len() + body.octets().len()).to_string();
+            RSNA_BODIES.iter().filter(|known| **known == length).for_each(|known| self.saw(name, known));
+        }
+    }
+
+    /// A report frame that the reader was given with one of the forms.
+    fn told(&mut self, form: Form, destination: &Address, octets: &[u8]) {
+        match read_report(form.number(), destination, octets) {
+            Ok(frame) => {
+                if frame.first_event().is_none() {
+                    self.saw("reader", in_form(form, "told draft, no event", "told published, no event"));
+                }
+                frame.elements.iter().for_each(|element| self.read(element));
+            }
+            Err(refusal) => self.refused_report(form, octets, refusal.number, refusal.place),
+        }
+        let other = read_report(form.other().number(), destination, octets);
+        if let Some((_, ty)) = other.ok().and_then(|frame| frame.first_event()) {
+            self.saw_kind(ty, in_form(form, "published, told draft (17)", "draft, told published (17)"));
+        }
+    }
+
+    /// The same with a number that is no form.
+    fn told_no_form(&mut self, destination: &Address, octets: &[u8]) {
+        self.saw("reader", "told no form (15)");
+        if is_group(destination) {
+            self.saw("reader", "told no form, group destination (15)");
+        }
+        if octets.len() < HEADER {
+            self.saw("reader", "told no form, frame under 3 octets (15)");
         }
     }
 
@@ -486,9 +594,13 @@ impl Covered {
     fn read(&mut self, element: &ReportElement) {
         let ReportElement { ty, status, rest, .. } = element;
         match (rest, status) {
-            (Rest::Event(_, body), _) => {
-                self.saw_kind(*ty, "read");
-                self.rsna_length("RSNA event read", body);
+            (Rest::Event(time, body), _) => {
+                self.saw_kind(*ty, in_form(time.form(), "read, draft", "read, published"));
+                self.rsna_length("RSNA event read", time, body);
+                let front = time.octets().first_chunk().is_some_and(time_is_good);
+                if !front {
+                    self.saw_kind(*ty, "read, published, its front a wrong time");
+                }
             }
             (Rest::Nothing, 0) => self.saw_kind(*ty, "read without event"),
             (Rest::Nothing, _) => self.saw_kind(*ty, "read with status 1 to 4"),
@@ -497,24 +609,41 @@ impl Covered {
         }
     }
 
-    /// A report frame that was refused at an element.
-    fn refused_report(&mut self, octets: &[u8], number: u8, place: usize) {
+    /// A report frame that was refused at an element, by a reader told this form.
+    fn refused_report(&mut self, form: Form, octets: &[u8], number: u8, place: usize) {
         let element = part_at(octets, place).filter(|part| part.id == Kind::Event.report_id());
         let (14 | 17, Some(element)) = (number, element) else { return };
         let [_, ty, 0, rest @ ..] = element.body else { return };
         if number == 14 {
             return self.saw_kind(*ty, "wrong time when read (14)");
         }
+        let of_the_other_form =
+            EventTime::at_front(form.other(), rest).is_some_and(|(_, own)| EventBody::of(*ty, own).is_some());
+        if of_the_other_form {
+            return;
+        }
         self.saw_kind(*ty, "wrong body (17)");
-        if rest.first_chunk().is_some_and(|time| !time_is_good(time)) {
+        if form == Form::Draft && rest.first_chunk().is_some_and(|time| !time_is_good(time)) {
             self.saw_kind(*ty, "wrong body and wrong time (17)");
         }
-        let first = element.body.get(22);
-        match (ty, element.body.len(), first == Some(&EapMethod::EXPANDED)) {
-            (1, 24 | 46, true) => self.saw("RSNA event read", "254 in 24 or 46 (17)"),
-            (1, 31 | 53, false) => self.saw("RSNA event read", "another in 31 or 53 (17)"),
+        let expanded = element.body.get(method_place(form)) == Some(&EapMethod::EXPANDED);
+        match (form, ty, element.body.len(), expanded) {
+            (Form::Draft, 1, 24 | 46, true) => self.saw("RSNA event refused", "254 in 24 or 46 (17)"),
+            (Form::Draft, 1, 31 | 53, false) => self.saw("RSNA event refused", "another in 31 or 53 (17)"),
+            (Form::Published, 1, 38 | 60, true) => self.saw("RSNA event refused", "254 in 38 or 60 (17)"),
+            (Form::Published, 1, 45 | 67, false) => {
+                self.saw("RSNA event refused", "another in 45 or 67 (17)")
+            }
             _ => {}
         }
+    }
+}
+
+/// One of two by the form.
+fn in_form(form: Form, draft: &'static str, published: &'static str) -> &'static str {
+    match form {
+        Form::Draft => draft,
+        Form::Published => published,
     }
 }
 

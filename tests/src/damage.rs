@@ -3,8 +3,8 @@
 use crate::random::Random;
 
 /// Values that stand on the edges of what the readers test.
-const EDGES: [u8; 24] =
-    [0, 1, 2, 3, 4, 5, 6, 7, 8, 9, 10, 12, 13, 21, 33, 59, 60, 78, 79, 80, 81, 128, 254, 255];
+const EDGES: [u8; 26] =
+    [0, 1, 2, 3, 4, 5, 6, 7, 8, 9, 10, 12, 13, 21, 33, 39, 47, 59, 60, 78, 79, 80, 81, 128, 254, 255];
 
 /// The frame with one or more faults.
 pub fn damage(random: &mut Random, frame: &[u8]) -> Vec<u8> {

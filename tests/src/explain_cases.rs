@@ -4,6 +4,7 @@
 use crate::cases::{setup, trace, Case, Input, CONSOLE};
 use crate::damage::part;
 use crate::explain::Question;
+use crate::form::draft;
 use crate::kind_cases::{octets_of, EXPANDED};
 use crate::octets::Kind;
 use crate::script::{elements, numbered, transition, Script, LEAST};
@@ -293,7 +294,7 @@ fn frequent() -> Case {
 fn no_call() -> Vec<Case> {
     let every = asked(0, 255, &[]);
     let wrong = element(&[0, 0, 1]);
-    let list = vec![CONSOLE];
+    let list = vec![draft(CONSOLE)];
     let given = |numbers: &[u8]| [elements(5, 0, numbers.to_vec())];
     vec![
         Script::start()
@@ -411,7 +412,7 @@ fn technicians_story() -> Vec<Case> {
     });
     cases.push(Case {
         title: "the report on the technician's page",
-        input: Input::Report([&CONSOLE_OF_THE_PAGE[..], &octets_of(&given)].concat()),
+        input: Input::Report([&[0], &CONSOLE_OF_THE_PAGE[..], &octets_of(&given)].concat()),
         printed: report.trim_start().to_string(),
     });
     cases
@@ -481,18 +482,18 @@ fn program_cases() -> Vec<Case> {
             [set_up(&[1, 2]), vec![write_record(&explain(&wrong, 0, 0))]].concat(),
             LIMIT,
         ),
-        // A setup has 1 + 2 + 17 + 1 + 6 = 27 octets, a logging 1 + 4 + 9 + 12 + 1 + 2 + 4 + 4 = 37.
+        // A setup has 1 + 2 + 17 + 1 + 7 = 28 octets, a logging 1 + 4 + 9 + 23 + 12 + 1 + 2 + 4 + 4 = 60.
         case(
             "explain, program: an unknown record",
             fields(&one, 2, 0),
             [set_up(&[1]), vec![vec![0xFF]]].concat(),
-            "trace refused at 64",
+            "trace refused at 88",
         ),
         case(
             "explain, program: a refused trace comes before the element",
             fields(&[], 2, 9),
             [set_up(&[1]), vec![vec![1, 0, 0]]].concat(),
-            "trace refused at 64",
+            "trace refused at 88",
         ),
         case("explain, program: refused at once", fields(&one, 2, 0), vec![vec![9]], "trace refused at 0"),
         case("explain, program: no input", Vec::new(), Vec::new(), "trace refused at 0"),

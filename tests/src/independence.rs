@@ -1,13 +1,14 @@
 //! "Console independence", seen from outside: the program compared with itself.
 //!
 //! Each answer to a sender in the whole run is the answer of a newly set up gate: the identity given to
-//! setup, the list of the last accepted network change or setup, the later calls only, and a clock record
-//! at the same reading in place of each frame or report call of another sender. The new gate has no reading,
+//! setup, the list of the last accepted network change or setup ("same list, same forms"), the later calls
+//! only, and a clock record at the same reading in place of each frame or report call of another sender. The new gate has no reading,
 //! and its first later call is at zero; "A network change keeps the time running", so the times of the two
 //! differ, and the answers may not.
 
 use crate::answers::answers;
 use crate::compare::{records_text, Difference};
+use crate::form::Console;
 use crate::octets::Address;
 use crate::program::Programs;
 use crate::shrink::shrink_trace;
@@ -17,7 +18,7 @@ use std::collections::BTreeSet;
 /// The calls between one setup or accepted network change and the next, and the whole run's answers.
 struct Stretch<'a> {
     identity: Vec<u8>,
-    list: Vec<Address>,
+    list: Vec<Console>,
     calls: Vec<(Record, &'a str)>,
     after_change: bool,
 }

@@ -1,6 +1,8 @@
 //! Cases of document 02's request (a), with what is printed worked out by hand from the papers.
 
-use crate::cases::{frame, frame_case, logging, report, reported, setup, trace, Case, Input, CONSOLE, TIME};
+use crate::cases::{
+    frame, frame_case, logging, report, reported, setup, trace, Case, Input, CONSOLE, PUBLISHED, TIME,
+};
 use crate::make_events::BSSIDS;
 use crate::make_identity::STATION;
 use crate::octets::Kind;
@@ -30,14 +32,15 @@ pub const PEER_LINK: &str = "4f19050200e7033a3b171f0cea0702010101010151061401020
 /// An RSNA event with this EAP method and RSN element, and result 17.
 pub fn rsna(eap: [u8; 8], rsn: &[u8]) -> RsnaLogging {
     let (target, authentication) = (BSSIDS[1], SUITE);
-    RsnaLogging { time: TIME, target, authentication, eap, result: 0x11, rsn: rsn.to_vec() }
+    let (time, published, rsn) = (TIME, PUBLISHED, rsn.to_vec());
+    RsnaLogging { time, published, target, authentication, eap, result: 0x11, rsn }
 }
 
 /// A peer link event, every field with a value of its own.
 pub fn peer_link() -> PeerLogging {
     let (class, channel, power, connection, status) = (81, 6, 20, 0x03_02_01, 3);
     let link = PeerLink { peer: BSSIDS[0], class, channel, power, connection, status };
-    PeerLogging { time: TIME, link }
+    PeerLogging { time: TIME, published: PUBLISHED, link }
 }
 
 /// Octets given in hexadecimal.
@@ -67,7 +70,7 @@ fn written_case(title: &'static str, ty: u8, conditions: &[(u8, &[u8])], frame: 
 /// An event report frame for the program `report`, in hexadecimal from its first element on.
 fn read_case(title: &'static str, elements: &str, printed: String) -> Case {
     let frame = octets_of(&format!("0a0107{elements}"));
-    Case { title, input: Input::Report([&STATION[..], &frame].concat()), printed }
+    Case { title, input: Input::Report([&[0], &STATION[..], &frame].concat()), printed }
 }
 
 /// Loggings, and what is reported of them.
@@ -201,7 +204,7 @@ pub fn kind_limits() -> Vec<Input> {
     };
     let read = |elements: &str| {
         let octets = octets_of(&format!("0a0107{elements}"));
-        Record::Read { destination: STATION, octets }
+        Record::Read { form: 0, destination: STATION, octets }
     };
     vec![
         trace(&[read(&expanded_in_24()), read(&legacy_in_53())]),

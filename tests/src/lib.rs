@@ -1,5 +1,5 @@
-//! A separately written reader and gate for document 01 and requests (a), (c), (d) and (f) of document 02, and the
-//! differential tests made with it.
+//! A separately written reader and gate for document 01 and requests (a), (c), (d), (f) and (g) of document 02, and
+//! the differential tests made with it.
 
 // The reader and the gate.
 pub mod clock;
@@ -7,6 +7,7 @@ pub mod condition;
 pub mod event_body;
 pub mod event_request;
 pub mod explain;
+pub mod form;
 pub mod listing;
 pub mod octets;
 pub mod peer_link;
@@ -24,6 +25,7 @@ pub mod cases;
 pub mod clock_cases;
 pub mod damage;
 pub mod explain_cases;
+pub mod forms_cases;
 pub mod kind_cases;
 pub mod make_events;
 pub mod make_identity;

@@ -1,6 +1,7 @@
 //! The exact text of the programs `frame` and `report`.
 
 use crate::event_body::EventBody;
+use crate::form::{EventTime, Form};
 use crate::octets::{address_of, u16_of, Address, Kind};
 use crate::peer_link::PeerLink;
 use crate::refusal::refusal;
@@ -43,18 +44,20 @@ fn request_line(kind: Kind, element: &RequestElement) -> String {
     )
 }
 
-/// The program `report`: "six octets of destination, then one report frame"; "input under six octets
-/// prints `refused 1 at 0`".
+/// The program `report`: its input begins "with the form (1), then the destination", then one report frame. "Input of
+/// `report` under seven octets: `refused 15 at 0` where its first octet is there and no form, otherwise `refused 1
+/// at 0`."
 pub fn list_report_input(input: &[u8]) -> String {
-    if input.len() < 6 {
-        return refusal(1, 0).to_string();
+    match input {
+        [form, behind @ ..] if behind.len() >= 6 => list_report(*form, &address_of(behind), &behind[6..]),
+        [form, ..] if Form::of(*form).is_none() => refusal(15, 0).to_string(),
+        _ => refusal(1, 0).to_string(),
     }
-    list_report(&address_of(input), &input[6..])
 }
 
 /// The listing of a report frame, or the refusal.
-pub fn list_report(destination: &Address, octets: &[u8]) -> String {
-    match read_report(destination, octets) {
+pub fn list_report(form: u8, destination: &Address, octets: &[u8]) -> String {
+    match read_report(form, destination, octets) {
         Err(refusal) => refusal.to_string(),
         Ok(frame) => report_text(&frame),
     }
@@ -75,7 +78,7 @@ fn report_line(kind: Kind, element: &ReportElement) -> String {
         Rest::Nothing => String::new(),
         Rest::Unread(octets) => format!(" rest {octets}"),
         Rest::Subelements(number) => format!(" subs {number}"),
-        Rest::Event(time, body) => format!(" time {}{}", time_text(time), event_text(body)),
+        Rest::Event(time, body) => event_time_text(time) + &event_text(body),
     };
     format!(
         "element {} token {} type {} status {}{}\n",
@@ -85,6 +88,20 @@ fn report_line(kind: Kind, element: &ReportElement) -> String {
         element.status,
         rest
     )
+}
+
+/// "` time 2026-12-31 23:59:59.999`", and "for form 1, in place of the time, ` tsf HEX offset HEX error HEX` as the
+/// octets stand."
+fn event_time_text(time: &EventTime) -> String {
+    match time {
+        EventTime::Draft(time) => format!(" time {}", time_text(time)),
+        EventTime::Published(published) => format!(
+            " tsf {} offset {} error {}",
+            hexadecimal(&published.tsf),
+            hexadecimal(&published.offset),
+            hexadecimal(&published.error)
+        ),
+    }
 }
 
 /// What stands behind an event's time.

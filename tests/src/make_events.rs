@@ -1,6 +1,7 @@
 //! Made-up events of the three kinds: times, fields, and the records that log them.
 
 use crate::event_body::EventBody;
+use crate::form::{EventTime, Form, PublishedTime};
 use crate::octets::Address;
 use crate::peer_link::{PeerLink, PeerLogging};
 use crate::random::Random;
@@ -55,6 +56,23 @@ pub fn time(random: &mut Random, wrong: usize) -> Time {
     time
 }
 
+/// The published time fields: any octets, of which the first nine are at times a good time of the draft form.
+pub fn published_time(random: &mut Random) -> PublishedTime {
+    let mut octets = random.octets(23);
+    if random.percent(20) {
+        octets[..9].copy_from_slice(&time(random, 0));
+    }
+    PublishedTime::at_front(&octets).expect("there are 23 octets").0
+}
+
+/// A time as a report of this form has it; `wrong` times in a hundred, in the draft form, one field is wrong.
+pub fn event_time(random: &mut Random, form: Form, wrong: usize) -> EventTime {
+    match form {
+        Form::Draft => EventTime::Draft(time(random, wrong)),
+        Form::Published => EventTime::Published(published_time(random)),
+    }
+}
+
 /// A transition with the BSSIDs that conditions name, and any transition time.
 pub fn transition(random: &mut Random) -> Transition {
     Transition {
@@ -102,6 +120,7 @@ pub fn rsna_logging(random: &mut Random, wrong: usize) -> RsnaLogging {
     let both = random.percent(wrong / 3);
     RsnaLogging {
         time: time(random, if both { 100 } else { wrong }),
+        published: published_time(random),
         target: random.pick(&BSSIDS),
         authentication: suite(random),
         eap: method_in_eight(random),
@@ -142,13 +161,14 @@ pub fn event_body(random: &mut Random, ty: u8) -> EventBody {
 pub fn log_record(random: &mut Random, ty: u8, reading: u32, taken: u32, wrong: usize) -> Record {
     match ty {
         0 => {
-            let time = time(random, wrong);
-            let departure = reading.wrapping_sub(taken);
-            Record::Log { reading, logging: Logging { time, transition: transition(random), departure } }
+            let (time, published) = (time(random, wrong), published_time(random));
+            let (transition, departure) = (transition(random), reading.wrapping_sub(taken));
+            Record::Log { reading, logging: Logging { time, published, transition, departure } }
         }
         1 => Record::LogRsna { reading, logging: rsna_logging(random, wrong) },
         _ => {
-            let logging = PeerLogging { time: time(random, wrong), link: peer_link(random) };
+            let (time, published) = (time(random, wrong), published_time(random));
+            let logging = PeerLogging { time, published, link: peer_link(random) };
             Record::LogPeerLink { reading, logging }
         }
     }

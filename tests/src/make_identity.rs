@@ -1,6 +1,7 @@
 //! Made-up identities and lists of requesters.
 
 use crate::damage::{damage, part};
+use crate::form::Console;
 use crate::octets::Address;
 use crate::random::Random;
 
@@ -43,22 +44,32 @@ pub fn identity(random: &mut Random, wrong: usize) -> Vec<u8> {
     parts.concat()
 }
 
-/// A list: one to four of five addresses; at times empty, too long, repeated, or with a group address.
-pub fn console_list(random: &mut Random) -> Vec<Address> {
+/// A number that is no form.
+pub fn bad_form(random: &mut Random) -> u8 {
+    random.pick(&[2, 2, 3, 128, 129, 254, 255])
+}
+
+/// A list: one to four of five addresses, of one form or of both; at times empty, too long, repeated, with a group
+/// address, or with a number that is no form.
+pub fn console_list(random: &mut Random) -> Vec<Console> {
     let first = random.between(0, 4);
-    let address = |number: usize| [2, 0, 0, 0, 0, 1 + ((first + number) % 5) as u8];
-    let mut list: Vec<Address> = (0..random.between(1, 4)).map(address).collect();
-    if !random.percent(10) {
+    let forms = random.pick(&[[0, 0], [1, 1], [0, 1], [0, 1], [0, 1]]);
+    let mut console = |number: usize| {
+        let address = [2, 0, 0, 0, 0, 1 + ((first + number) % 5) as u8];
+        Console { address, form: random.pick(&forms) }
+    };
+    let six: Vec<Console> = (0..6).map(&mut console).collect();
+    let mut list = six[..random.between(1, 4)].to_vec();
+    if !random.percent(13) {
         return list;
     }
-    match random.between(0, 3) {
+    let at = random.between(0, list.len() - 1);
+    match random.between(0, 5) {
         0 => list.clear(),
-        1 => list = (0..random.between(5, 6)).map(address).collect(),
-        2 => list.push(list[0]),
-        _ => {
-            let at = random.between(0, list.len() - 1);
-            list[at][0] = 3;
-        }
+        1 => list = six[..random.between(5, 6)].to_vec(),
+        2 => list.push(Console { form: random.pick(&[0, 1]), ..list[at] }),
+        3 => list[at].address[0] = 3,
+        _ => list[at].form = bad_form(random),
     }
     list
 }

@@ -2,10 +2,11 @@
 
 use crate::clock::{Rule, TURN};
 use crate::damage::part;
-use crate::make_events::{log_record, rsna_logging, transition};
+use crate::form::Console;
+use crate::make_events::{log_record, published_time, rsna_logging, transition};
 use crate::make_identity::{console_list, identity, STATION};
 use crate::make_questions::question;
-use crate::make_reports::report_frame;
+use crate::make_reports::{report_frame, MadeReport};
 use crate::make_requests::{crowded_request, handed_condition, request_frame, Taste};
 use crate::octets::{Address, Kind};
 use crate::random::Random;
@@ -16,10 +17,10 @@ use crate::station::{Logging, Station};
 use crate::trace::{handed_lengths, write_record, Record, LONGEST_TRACE};
 
 /// Lengths of lent buffers at which something changes: the least buffer, one to several transitions of 35
-/// octets, reports of 5, the longest identity twice, the longest frame.
-const BUFFERS: [usize; 32] = [
-    0, 1, 2, 3, 258, 259, 260, 260, 260, 261, 262, 264, 265, 266, 267, 268, 283, 293, 294, 295, 296, 300,
-    318, 516, 517, 518, 2303, 2304, 2305, 2306, 4095, 4096,
+/// octets, or of 49 in form 1, reports of 5, the longest identity twice, the longest frame.
+const BUFFERS: [usize; 34] = [
+    0, 1, 2, 3, 258, 259, 260, 260, 260, 261, 262, 264, 265, 266, 267, 268, 283, 293, 294, 295, 296, 297,
+    300, 318, 346, 516, 517, 518, 2303, 2304, 2305, 2306, 4095, 4096,
 ];
 
 /// How often each call comes: clock, logging, event frame, diagnostic frame, report call, move, network
@@ -127,6 +128,11 @@ pub fn trace(random: &mut Random) -> Vec<Vec<u8>> {
     maker.records
 }
 
+/// The addresses of a list.
+fn addresses(list: &[Console]) -> Vec<Address> {
+    list.iter().map(|console| console.address).collect()
+}
+
 impl Maker<'_> {
     /// Appends a record.
     fn push(&mut self, record: Record) {
@@ -202,8 +208,8 @@ impl Maker<'_> {
             7 => self.setup(),
             8 => self.write(),
             9 => {
-                let (destination, octets) = report_frame(self.random);
-                self.push(Record::Read { destination, octets });
+                let MadeReport { told: form, destination, octets } = report_frame(self.random);
+                self.push(Record::Read { form, destination, octets });
             }
             10 => self.around_a_timeout(),
             13 => self.long_wait(),
@@ -215,10 +221,10 @@ impl Maker<'_> {
     }
 
     /// A list for a move or network change; remembered where it will be accepted.
-    fn list(&mut self) -> Vec<Address> {
+    fn list(&mut self) -> Vec<Console> {
         let list = console_list(self.random);
         if !self.listed.is_empty() && list_is_good(&list) {
-            self.listed = list.clone();
+            self.listed = addresses(&list);
         }
         list
     }
@@ -228,7 +234,7 @@ impl Maker<'_> {
         let list = console_list(self.random);
         let identity = identity(self.random, 6);
         let accepted = list_is_good(&list) && identity_is_good(&identity);
-        self.listed = if accepted { list.clone() } else { Vec::new() };
+        self.listed = if accepted { addresses(&list) } else { Vec::new() };
         self.push(Record::Setup { identity, list });
     }
 
@@ -411,7 +417,8 @@ impl Maker<'_> {
         let kind = Kind::Diagnostic;
         let buffer = random.pick(&[0, 259, 260, 300]);
         let list = console_list(random);
-        let refused_time = Logging { time: [0; 9], transition: transition(random), departure: 0 };
+        let (published, moved) = (published_time(random), transition(random));
+        let refused_time = Logging { time: [0; 9], published, transition: moved, departure: 0 };
         let refused_element = RsnaLogging { rsn: vec![0; 21], ..rsna_logging(random, 0) };
         let ty = random.pick(&[0, 1, 2]);
         let logged = log_record(random, ty, reading, 0, 0);
@@ -480,7 +487,7 @@ impl Maker<'_> {
             0 => vec![random.pick(&[9, 15, 16 + 9, 32, 255])],
             1 => report(2, 300),
             2 => report(0, 4097),
-            3 => [&[0x11][..], &[2, 0, 0, 0, 0, 9], &4097u16.to_le_bytes(), &[0; 4097]].concat(),
+            3 => [&[0x11, 1][..], &[2, 0, 0, 0, 0, 9], &4097u16.to_le_bytes(), &[0; 4097]].concat(),
             4 => write(1, 0, &[0]),
             5 => write(3, 0, &[0]),
             6 => write(0, 256, &[0]),
@@ -500,7 +507,7 @@ impl Maker<'_> {
             18 => logging[..random.between(1, logging.len() - 1)].to_vec(),
             20 => question[..random.between(1, question.len() - 1)].to_vec(),
             21 => [&[0x12][..], &4097u16.to_le_bytes(), &[78; 4097], &[0; 4]].concat(),
-            19 => [&[7][..], &reading, &[255; 9], &[2; 19], &4097u16.to_le_bytes(), &[0; 4097]].concat(),
+            19 => [&[7][..], &reading, &[255; 32], &[2; 19], &4097u16.to_le_bytes(), &[0; 4097]].concat(),
             _ => {
                 let mut cut = random.pick(&self.records);
                 cut.truncate(random.between(1, cut.len() - 1));

@@ -1,6 +1,7 @@
 //! What an event report call has of document 02's request (d), newest first, seen beside the second gate's choice.
 
 use crate::event_request::{Event, EventRequest, What};
+use crate::form::Form;
 use crate::octets::{Address, Kind};
 use crate::station::Station;
 use crate::trace::Record;
@@ -26,18 +27,18 @@ impl Order {
         let before = self.0.insert(*console, oldest);
         let request = station.event_request(console);
         let dropped = before != Some(oldest);
-        request.map_or(Vec::new(), |request| due(request, station.log(), dropped, *buffer))
+        request.map_or(Vec::new(), |(request, form)| due(request, form, station.log(), dropped, *buffer))
     }
 }
 
 /// What a request has left, as long as the log stays, up to so many octets; `dropped`: the oldest event went since
 /// its latest report call.
-fn due(request: &EventRequest, log: &[Event], dropped: bool, octets: usize) -> Vec<Due> {
+fn due(request: &EventRequest, form: Form, log: &[Event], dropped: bool, octets: usize) -> Vec<Due> {
     let mut rest = request.clone();
     let (mut due, mut written) = (Vec::new(), 0);
     while let Some(next) = rest.next(log).filter(|_| written < octets) {
         // ID, length, token, type, status, and what is behind them.
-        written += 5 + rest.report(&next).1.len();
+        written += 5 + rest.report(&next, form).1.len();
         let element = &rest.elements[next.index];
         let shows = match next.what {
             What::Event(event) => {

@@ -1,6 +1,7 @@
 //! Cases of document 02's request (d), newest first, with what is printed worked out by hand from the papers.
 
-use crate::cases::{Case, CONSOLE, IDENTITY};
+use crate::cases::{setup_of, Case, CONSOLE};
+use crate::form::draft;
 use crate::make_identity::STATION;
 use crate::octets::Address;
 use crate::script::{elements, numbered, request, transition, Script, LEAST};
@@ -217,7 +218,7 @@ fn requests_side_by_side() -> Vec<Case> {
         let script = Script::start().log(0, 1..=10).ask(&[[5, 0, 255]]);
         script.gives(LEAST, &[elements(5, 0, (4..=10).rev())])
     };
-    let two = Record::Setup { identity: IDENTITY.to_vec(), list: vec![CONSOLE, OTHER] };
+    let two = setup_of(&[draft(CONSOLE), draft(OTHER)]);
     let from_other = Record::Frame {
         reading: 10,
         destination: STATION,

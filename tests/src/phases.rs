@@ -8,12 +8,14 @@ use crate::compare::{compare_explain, compare_frame, compare_report, compare_tra
 use crate::exchange::check_exchange;
 use crate::explain::Question;
 use crate::explain_cases::explain_cases;
+use crate::form::Console;
+use crate::forms_cases::{forms_cases, forms_limits};
 use crate::independence::check_independence;
 use crate::kind_cases::{kind_cases, kind_limits};
 use crate::make_events::log_record;
 use crate::make_identity::{identity, STATION};
 use crate::make_questions::question;
-use crate::make_reports::report_frame;
+use crate::make_reports::{report_frame, MadeReport};
 use crate::make_requests::{request_frame, Taste};
 use crate::make_traces::trace;
 use crate::octets::{part_at, Kind, HEADER};
@@ -160,9 +162,11 @@ pub fn fixed_inputs() -> Vec<Input> {
         .chain(kind_cases())
         .chain(clock_cases())
         .chain(order_cases())
-        .chain(explain_cases());
+        .chain(explain_cases())
+        .chain(forms_cases());
     let waiting = waiting_cases().into_iter().map(|(case, _)| case);
-    cases.chain(waiting).map(|case| case.input).chain(limits()).chain(kind_limits()).collect()
+    let limits = limits().into_iter().chain(kind_limits()).chain(forms_limits());
+    cases.chain(waiting).map(|case| case.input).chain(limits).collect()
 }
 
 /// Made-up frames: each as the input of `frame` or `report` alone, and all in the records of one trace.
@@ -186,13 +190,18 @@ pub fn request_frames(random: &mut Random, number: usize) -> Made {
     made
 }
 
-/// So many report frames, and questions to a gate that logged nothing.
+/// So many report frames, at times cut before their destination's end where they stand alone, and questions to a gate
+/// that logged nothing.
 pub fn report_frames(random: &mut Random, number: usize) -> Made {
     let mut made = Made::default();
     for _ in 0..number {
-        let (destination, octets) = report_frame(random);
-        made.alone.push([&destination[..], &octets].concat());
-        made.records.push(write_record(&Record::Read { destination, octets }));
+        let MadeReport { told: form, destination, octets } = report_frame(random);
+        let mut alone = [&[form], &destination[..], &octets].concat();
+        if random.percent(4) {
+            alone.truncate(random.between(0, 7));
+        }
+        made.alone.push(alone);
+        made.records.push(write_record(&Record::Read { form, destination, octets }));
         if random.percent(5) {
             made.records.push(write_record(&Record::Explain(question(random, &[], 50))));
         }
@@ -203,13 +212,13 @@ pub fn report_frames(random: &mut Random, number: usize) -> Made {
 /// A newly set up station with one event of each kind, a frame from its requester, a question about the frame's
 /// first element, or what is there of it, and one report call.
 fn fresh_station(random: &mut Random, octets: Vec<u8>, kind: Kind) -> [Record; 7] {
-    let console = [2, 0, 0, 0, 0, 1];
+    let (console, form) = ([2, 0, 0, 0, 0, 1], random.pick(&[0, 1]));
     let buffer = random.pick(&[260, 300, 330]);
     let taken = random.pick(&[1, 2, 16, 17]);
     let element = first_element(&octets);
     let (count, position) = (random.pick(&[0, 1, 2, 3, 3, 3, 4]), random.pick(&[0, 0, 1, 1, 2, 2, 3]));
     [
-        Record::Setup { identity: identity(random, 0), list: vec![console] },
+        Record::Setup { identity: identity(random, 0), list: vec![Console { address: console, form }] },
         log_record(random, 0, taken, taken, 0),
         log_record(random, 1, 18, 0, 0),
         log_record(random, 2, 19, 0, 0),

@@ -1,36 +1,56 @@
-//! Every frame that the gate gave, read back by the report reader: its listing against what the second gate
-//! logged and chose. No octet of a frame has a part in what is expected.
+//! Every frame that the gate gave, read back by the report reader, told its console's form and the other one: what it
+//! lists and refuses against what the second gate logged and chose. No octet of a frame has a part in what is expected.
 
 use crate::answers::answers;
 use crate::clock::Rule;
 use crate::compare::{records_text, Difference};
+use crate::form::Form;
 use crate::listing::report_text;
-use crate::octets::Address;
+use crate::octets::{Address, HEADER};
 use crate::program::Programs;
+use crate::refusal::refusal;
 use crate::report::ReportFrame;
 use crate::shrink::shrink_trace;
 use crate::tally::Tally;
 use crate::trace::{run_trace, write_record, Record, LONGEST_TRACE};
 
 /// The frames of a run, what the second gate chose for them, and what the reader says they hold.
-struct ReadBack {
+pub struct ReadBack {
     frames: Vec<Vec<u8>>,
-    chosen: Vec<ReportFrame>,
+    pub chosen: Vec<ReportFrame>,
     read: Vec<u8>,
 }
 
 impl ReadBack {
-    /// Reads back what a run of these records printed.
-    fn of(programs: &Programs, records: &[Vec<u8>], printed: &[u8]) -> ReadBack {
+    /// Reads back what a run of these records printed; `run` is what `replay` prints.
+    pub fn of(run: &dyn Fn(&[u8]) -> Vec<u8>, records: &[Vec<u8>], printed: &[u8]) -> ReadBack {
         let frames = given_frames(records, &String::from_utf8_lossy(printed));
         let chosen = run_trace(Rule::Elapsed, &records.concat()).chosen;
-        let read = read(programs, &frames);
+        let form = |index: usize| chosen.get(index).map_or(Form::Draft, |frame| frame.form);
+        let forms: Vec<Form> = (0..frames.len()).map(form).collect();
+        let read = read(run, &frames, &forms);
         ReadBack { frames, chosen, read }
     }
 
-    /// The listing that the choice asks for.
+    /// What the choice asks for: the listing in the console's own form, then what is said in the other one.
     fn expected(&self) -> Vec<u8> {
-        self.chosen.iter().map(report_text).collect::<String>().into_bytes()
+        let both = |frame| report_text(frame) + &told_the_other_form(frame);
+        self.chosen.iter().map(both).collect::<String>().into_bytes()
+    }
+
+    /// Whether the reader says it too.
+    pub fn is_as_chosen(&self) -> bool {
+        self.read == self.expected()
+    }
+}
+
+/// "A reader told one form and given the other must never show a wrong time": 17 at the first element with an event;
+/// without one the listing is the same.
+fn told_the_other_form(frame: &ReportFrame) -> String {
+    match frame.first_event() {
+        // Before it stand reports of length 3: ID, length, token, type and status.
+        Some((index, _)) => refusal(17, HEADER + 5 * index).to_string(),
+        None => report_text(frame),
     }
 }
 
@@ -41,24 +61,19 @@ pub fn check_read_back(
     records: &[Vec<u8>],
     printed: &[u8],
 ) -> Result<(), Difference> {
-    let back = ReadBack::of(programs, records, printed);
-    if back.read == back.expected() {
+    let replay = |input: &[u8]| programs.run("replay", input);
+    let back = ReadBack::of(&replay, records, printed);
+    if back.is_as_chosen() {
         tally.count_read_back(&back.chosen);
         return Ok(());
     }
-    let run = |records: &[Vec<u8>]| {
-        let printed = programs.run("replay", &records.concat());
-        ReadBack::of(programs, records, &printed)
-    };
-    let shortest = shrink_trace(records, &mut |fewer| {
-        let back = run(fewer);
-        back.read != back.expected()
-    });
+    let run = |records: &[Vec<u8>]| ReadBack::of(&replay, records, &replay(&records.concat()));
+    let shortest = shrink_trace(records, &mut |fewer| !run(fewer).is_as_chosen());
     let back = run(&shortest);
     Err(Difference {
         title: format!(
-            "read back: expected is what was chosen, printed what the report reader says; the records:\n{}\n\
-             the frames that they gave:\n{}",
+            "read back: expected is what was chosen, in the console's form and in the other one, printed what the \
+             report reader says; the records:\n{}\nthe frames that they gave:\n{}",
             records_text(&shortest),
             records_text(&back.frames)
         ),
@@ -83,20 +98,23 @@ pub fn given_frame(answer: &str) -> Option<Vec<u8>> {
     (0..length).map(|at| u8::from_str_radix(buffer.get(2 * at..2 * at + 2)?, 16).ok()).collect()
 }
 
-/// What the report reader prints for these frames, in as many traces as they need.
-fn read(programs: &Programs, frames: &[Vec<u8>]) -> Vec<u8> {
+/// What the report reader prints for these frames, each told its form and then the other one, in as many traces as
+/// they need.
+fn read(run: &dyn Fn(&[u8]) -> Vec<u8>, frames: &[Vec<u8>], forms: &[Form]) -> Vec<u8> {
     let mut printed = Vec::new();
     let mut waiting = Vec::new();
-    for (index, octets) in frames.iter().enumerate() {
-        let octets = octets.clone();
-        let record = write_record(&Record::Read { destination: destination(index), octets });
-        if waiting.len() + record.len() > LONGEST_TRACE {
-            printed.extend(programs.run("replay", &waiting));
-            waiting.clear();
+    for (index, (octets, form)) in frames.iter().zip(forms).enumerate() {
+        for told in [*form, form.other()] {
+            let (form, destination, octets) = (told.number(), destination(index), octets.clone());
+            let record = write_record(&Record::Read { form, destination, octets });
+            if waiting.len() + record.len() > LONGEST_TRACE {
+                printed.extend(run(&waiting));
+                waiting.clear();
+            }
+            waiting.extend(record);
         }
-        waiting.extend(record);
     }
-    printed.extend(programs.run("replay", &waiting));
+    printed.extend(run(&waiting));
     printed
 }
 

@@ -4,7 +4,6 @@ use crate::cases::{frame, logging, setup, trace, Case, CONSOLE};
 use crate::explain::Question;
 use crate::kind_cases::{peer_link, rsna, LEGACY};
 use crate::octets::{Address, Kind};
-use crate::peer_link::{PeerLink, PeerLogging};
 use crate::rsna::RsnaLogging;
 use crate::trace::Record;
 
@@ -36,9 +35,14 @@ impl Script {
     }
 
     /// A call that is accepted.
-    pub fn accepted(mut self, record: Record) -> Script {
+    pub fn accepted(self, record: Record) -> Script {
+        self.answered(record, "accepted")
+    }
+
+    /// A record and its line.
+    pub fn answered(mut self, record: Record, line: &str) -> Script {
         self.records.push(record);
-        self.printed += "accepted\n";
+        self.printed += &format!("{line}\n");
         self
     }
 
@@ -91,10 +95,8 @@ impl Script {
     }
 
     /// A question to `explain`, and its line.
-    pub fn explains(mut self, element: &[u8], count: u16, position: u16, line: &str) -> Script {
-        self.records.push(Record::Explain(Question { element: element.to_vec(), count, position }));
-        self.printed += &format!("{line}\n");
-        self
+    pub fn explains(self, element: &[u8], count: u16, position: u16, line: &str) -> Script {
+        self.answered(Record::Explain(Question { element: element.to_vec(), count, position }), line)
     }
 
     pub fn case(self, title: &'static str) -> Case {
@@ -109,9 +111,9 @@ pub fn numbered(reading: u32, ty: u8, number: u8) -> Record {
         0 => transition(reading, number, 0),
         1 => Record::LogRsna { reading, logging: RsnaLogging { result: number, ..rsna(LEGACY, &[]) } },
         _ => {
-            let PeerLogging { time, link } = peer_link();
-            let link = PeerLink { status: number, ..link };
-            Record::LogPeerLink { reading, logging: PeerLogging { time, link } }
+            let mut logging = peer_link();
+            logging.link.status = number;
+            Record::LogPeerLink { reading, logging }
         }
     }
 }

@@ -1,9 +1,16 @@
 //! What setup is held to: the list of requesters and the identity.
 
+use crate::form::{Console, Form};
 use crate::octets::{is_group, part_at, Address};
 
-/// "Console list empty, over 4, repeated, or with a group address": 15.
-pub fn list_is_good(list: &[Address]) -> bool {
+/// "Console list empty, over 4, repeated, or with a group address", or with "a form number other than 0 or 1": 15.
+pub fn list_is_good(list: &[Console]) -> bool {
+    let addresses: Vec<Address> = list.iter().map(|console| console.address).collect();
+    addresses_are_good(&addresses) && list.iter().all(|console| Form::of(console.form).is_some())
+}
+
+/// A list but for its forms: ""Repeated" in a console list goes by the address alone."
+pub fn addresses_are_good(list: &[Address]) -> bool {
     let mut sorted = list.to_vec();
     sorted.sort_unstable();
     sorted.dedup();

@@ -65,8 +65,8 @@ fn shrink_record(record: Record, fails: &mut dyn FnMut(&Record) -> bool) -> Reco
                 |octets: &[u8]| Record::Frame { reading, destination, source, octets: octets.to_vec() };
             with(&shrink_list(&octets, &mut |fewer| fails(&with(fewer))))
         }
-        Record::Read { destination, octets } => {
-            let with = |octets: &[u8]| Record::Read { destination, octets: octets.to_vec() };
+        Record::Read { form, destination, octets } => {
+            let with = |octets: &[u8]| Record::Read { form, destination, octets: octets.to_vec() };
             with(&shrink_list(&octets, &mut |fewer| fails(&with(fewer))))
         }
         Record::Report { reading, console, kind, buffer, fill } => {

@@ -1,8 +1,7 @@
 //! What a run has seen: a check that saw nothing could not have failed.
 
 use crate::absent::Explained;
-use crate::covered::Covered;
-use crate::event_body::EventBody;
+use crate::covered::{Covered, FORMS, KINDS};
 use crate::independence::Compared;
 use crate::octets::Kind;
 use crate::report::{ReportFrame, Rest};
@@ -27,8 +26,8 @@ impl Count {
 }
 
 /// Lines that programs printed, and how often each refusal number was among them; answers compared for
-/// demand 3, and beside document 01's clock; frames exchanged; frames read back, and what was in them; places
-/// explained beside what report calls give; the cases of document 02.
+/// demand 3, and beside document 01's clock; frames exchanged; frames read back, what was in them, and what the reader
+/// said of them told the other form; places explained beside what report calls give; the cases of document 02.
 #[derive(Default)]
 pub struct Tally {
     lines: Count,
@@ -41,10 +40,13 @@ pub struct Tally {
     exchanged: Count,
     frames: Count,
     elements: Count,
-    transitions: Count,
-    rsna_events: Count,
-    peer_links: Count,
+    /// By event type and form.
+    events: [[Count; 2]; 3],
     identities: Count,
+    /// By the type of the first event and the form.
+    refused_in_the_other: [[Count; 2]; 3],
+    /// By form.
+    same_in_the_other: [Count; 2],
     explained: Count,
     reported: Count,
     elements_refused: Count,
@@ -89,14 +91,19 @@ impl Tally {
     /// Counts frames that were read back as they were chosen.
     pub fn count_read_back(&self, chosen: &[ReportFrame]) {
         self.frames.add(chosen.len());
-        for element in chosen.iter().flat_map(|frame| &frame.elements) {
-            self.elements.add(1);
-            match element.rest {
-                Rest::Event(_, EventBody::Transition(_)) => self.transitions.add(1),
-                Rest::Event(_, EventBody::Rsna(_)) => self.rsna_events.add(1),
-                Rest::Event(_, EventBody::PeerLink(_)) => self.peer_links.add(1),
-                Rest::Subelements(1..) => self.identities.add(1),
-                _ => {}
+        for frame in chosen {
+            let form = usize::from(frame.form.number());
+            match frame.first_event() {
+                Some((_, ty)) => self.refused_in_the_other[usize::from(ty)][form].add(1),
+                None => self.same_in_the_other[form].add(1),
+            }
+            self.elements.add(frame.elements.len());
+            for element in &frame.elements {
+                match &element.rest {
+                    Rest::Event(_, body) => self.events[usize::from(body.ty())][form].add(1),
+                    Rest::Subelements(1..) => self.identities.add(1),
+                    _ => {}
+                }
             }
         }
     }
@@ -121,7 +128,7 @@ impl Tally {
 
     /// Prints the counts; false where one of them is 0.
     pub fn print(&self) -> bool {
-        let named = [
+        let mut named: Vec<(String, &Count)> = [
             ("lines compared", &self.lines),
             ("answers compared with a newly set up gate", &self.answers),
             ("of these after a network change", &self.after_change),
@@ -131,15 +138,24 @@ impl Tally {
             ("pairs of frames of one reading exchanged", &self.exchanged),
             ("frames read back", &self.frames),
             ("elements in them", &self.elements),
-            ("transitions among these", &self.transitions),
-            ("RSNA events among these", &self.rsna_events),
-            ("peer links among these", &self.peer_links),
             ("identities among these", &self.identities),
             ("places explained beside what report calls give", &self.explained),
             ("reported among these", &self.reported),
             ("elements that a gate and explain refuse alike", &self.elements_refused),
             ("runs of the program explain", &self.explain_runs),
-        ];
+        ]
+        .map(|(name, count)| (name.to_string(), count))
+        .into();
+        for (form, form_name) in FORMS.iter().enumerate() {
+            for (ty, kind) in KINDS.iter().enumerate() {
+                named.push((format!("{kind}s of the {form_name} form read back"), &self.events[ty][form]));
+                let refused =
+                    format!("frames of the {form_name} form refused in the other, first event: {kind}");
+                named.push((refused, &self.refused_in_the_other[ty][form]));
+            }
+            let same = format!("frames of the {form_name} form without event, the same in the other");
+            named.push((same, &self.same_in_the_other[form]));
+        }
         for (name, count) in &named {
             println!("{name}: {}", count.number());
         }

@@ -4,6 +4,7 @@ use crate::clock::Rule;
 use crate::covered::Covered;
 use crate::event_request::Event;
 use crate::explain::Question;
+use crate::form::{Console, PublishedTime};
 use crate::listing::list_report;
 use crate::octets::{address_of, u16_of, Address, Kind};
 use crate::order::Order;
@@ -23,17 +24,17 @@ pub const LONGEST_FIELD: usize = 4096;
 /// One record.
 #[derive(Clone, Debug, PartialEq, Eq)]
 pub enum Record {
-    Setup { identity: Vec<u8>, list: Vec<Address> },
+    Setup { identity: Vec<u8>, list: Vec<Console> },
     Clock { reading: u32 },
     Log { reading: u32, logging: Logging },
     LogRsna { reading: u32, logging: RsnaLogging },
     LogPeerLink { reading: u32, logging: PeerLogging },
     Frame { reading: u32, destination: Address, source: Address, octets: Vec<u8> },
     Report { reading: u32, console: Address, kind: Kind, buffer: usize, fill: u8 },
-    Roam { reading: u32, list: Vec<Address> },
-    Change { reading: u32, list: Vec<Address> },
+    Roam { reading: u32, list: Vec<Console> },
+    Change { reading: u32, list: Vec<Console> },
     Write { buffer: usize, fill: u8, kind: Kind, dialog: u8, wanted: Vec<Wanted> },
-    Read { destination: Address, octets: Vec<u8> },
+    Read { form: u8, destination: Address, octets: Vec<u8> },
     Explain(Question),
 }
 
@@ -90,10 +91,11 @@ impl<'a> Fields<'a> {
         Some(address_of(self.octets(6)?))
     }
 
-    /// "number of addresses (1), addresses (6 each)".
-    fn addresses(&mut self) -> Option<Vec<Address>> {
+    /// "number of addresses (1), addresses (6 each)", "each address is followed by its form (1)". "A bad form in a
+    /// record is the call's own 15, never a refused trace."
+    fn consoles(&mut self) -> Option<Vec<Console>> {
         let number = self.octet()?;
-        (0..number).map(|_| self.address()).collect()
+        (0..number).map(|_| Some(Console { address: self.address()?, form: self.octet()? })).collect()
     }
 
     /// A length: "no length in them over 4,096".
@@ -122,10 +124,16 @@ impl<'a> Fields<'a> {
         self.octets(9)?.try_into().ok()
     }
 
+    /// "the time is followed by TSF (8), UTC offset (10) and event time error (5)".
+    fn published(&mut self) -> Option<PublishedTime> {
+        let (published, _) = PublishedTime::at_front(self.octets(23)?)?;
+        Some(published)
+    }
+
     /// "time (9), source (6), target (6), reason (1), result (2), source RCPI, source RSNI, target RCPI,
     /// target RSNI (1 each), departure (4)".
     fn logging(&mut self) -> Option<Logging> {
-        let time = self.time()?;
+        let (time, published) = (self.time()?, self.published()?);
         let transition = Transition {
             source: self.address()?,
             target: self.address()?,
@@ -134,7 +142,7 @@ impl<'a> Fields<'a> {
             result: self.two()?,
             signal: [self.octet()?, self.octet()?, self.octet()?, self.octet()?],
         };
-        Some(Logging { time, transition, departure: self.reading()? })
+        Some(Logging { time, published, transition, departure: self.reading()? })
     }
 
     /// "time (9), target (6), authentication type (4), EAP method (8), result (1), RSN element's length (2),
@@ -142,6 +150,7 @@ impl<'a> Fields<'a> {
     fn rsna_logging(&mut self) -> Option<RsnaLogging> {
         Some(RsnaLogging {
             time: self.time()?,
+            published: self.published()?,
             target: self.address()?,
             authentication: self.octets(4)?.try_into().ok()?,
             eap: self.octets(8)?.try_into().ok()?,
@@ -153,7 +162,7 @@ impl<'a> Fields<'a> {
     /// "time (9), peer address (6), regulatory class (1), channel (1), transmit power (1), connection time (3),
     /// peer status (1)".
     fn peer_logging(&mut self) -> Option<PeerLogging> {
-        let time = self.time()?;
+        let (time, published) = (self.time()?, self.published()?);
         let link = PeerLink {
             peer: self.address()?,
             class: self.octet()?,
@@ -162,7 +171,7 @@ impl<'a> Fields<'a> {
             connection: u32::from(self.two()?) + 65_536 * u32::from(self.octet()?),
             status: self.octet()?,
         };
-        Some(PeerLogging { time, link })
+        Some(PeerLogging { time, published, link })
     }
 
     /// "token (1), type (1), limit or timeout (2; a limit is below 256), number of conditions (1)".
@@ -202,7 +211,7 @@ impl<'a> Fields<'a> {
     /// One record; nothing where it "is cut, unknown, or has a field out of the range given".
     fn record(&mut self) -> Option<Record> {
         Some(match self.octet()? {
-            0x00 => Record::Setup { identity: self.counted()?, list: self.addresses()? },
+            0x00 => Record::Setup { identity: self.counted()?, list: self.consoles()? },
             0x01 => Record::Clock { reading: self.reading()? },
             0x02 => Record::Log { reading: self.reading()?, logging: self.logging()? },
             0x03 => Record::Frame {
@@ -218,8 +227,8 @@ impl<'a> Fields<'a> {
                 buffer: self.length()?,
                 fill: self.octet()?,
             },
-            0x05 => Record::Roam { reading: self.reading()?, list: self.addresses()? },
-            0x06 => Record::Change { reading: self.reading()?, list: self.addresses()? },
+            0x05 => Record::Roam { reading: self.reading()?, list: self.consoles()? },
+            0x06 => Record::Change { reading: self.reading()?, list: self.consoles()? },
             0x07 => Record::LogRsna { reading: self.reading()?, logging: self.rsna_logging()? },
             0x08 => Record::LogPeerLink { reading: self.reading()?, logging: self.peer_logging()? },
             0x10 => {
@@ -228,7 +237,9 @@ impl<'a> Fields<'a> {
                 let wanted = (0..number).map(|_| self.wanted(kind)).collect::<Option<_>>()?;
                 Record::Write { buffer, fill, kind, dialog, wanted }
             }
-            0x11 => Record::Read { destination: self.address()?, octets: self.counted()? },
+            0x11 => {
+                Record::Read { form: self.octet()?, destination: self.address()?, octets: self.counted()? }
+            }
             0x12 => Record::Explain(self.question()?),
             _ => return None,
         })
@@ -253,10 +264,13 @@ pub fn read_record(input: &[u8]) -> Option<(Record, usize)> {
     Some((record, fields.at))
 }
 
-/// "number of addresses (1), addresses (6 each)", written.
-fn addresses_octets(list: &[Address]) -> Vec<u8> {
+/// "number of addresses (1), addresses (6 each)", each followed by its form, written.
+fn consoles_octets(list: &[Console]) -> Vec<u8> {
     let mut octets = vec![list.len() as u8];
-    octets.extend(list.concat());
+    for console in list {
+        octets.extend(console.address);
+        octets.push(console.form);
+    }
     octets
 }
 
@@ -271,13 +285,14 @@ fn counted_octets(counted: &[u8]) -> Vec<u8> {
 pub fn write_record(record: &Record) -> Vec<u8> {
     match record {
         Record::Setup { identity, list } => {
-            [vec![0x00], counted_octets(identity), addresses_octets(list)].concat()
+            [vec![0x00], counted_octets(identity), consoles_octets(list)].concat()
         }
         Record::Clock { reading } => [vec![0x01], reading.to_le_bytes().to_vec()].concat(),
         Record::Log { reading, logging } => {
             let mut octets = vec![0x02];
             octets.extend(reading.to_le_bytes());
             octets.extend(logging.time);
+            octets.extend(logging.published.octets());
             octets.extend(logging.transition.source);
             octets.extend(logging.transition.target);
             octets.push(logging.transition.reason);
@@ -290,6 +305,7 @@ pub fn write_record(record: &Record) -> Vec<u8> {
             let mut octets = vec![0x07];
             octets.extend(reading.to_le_bytes());
             octets.extend(logging.time);
+            octets.extend(logging.published.octets());
             octets.extend(logging.target);
             octets.extend(logging.authentication);
             octets.extend(logging.eap);
@@ -302,6 +318,7 @@ pub fn write_record(record: &Record) -> Vec<u8> {
             let mut octets = vec![0x08];
             octets.extend(reading.to_le_bytes());
             octets.extend(logging.time);
+            octets.extend(logging.published.octets());
             octets.extend(link.peer);
             octets.extend([link.class, link.channel, link.power]);
             octets.extend(&link.connection.to_le_bytes()[..3]);
@@ -322,10 +339,10 @@ pub fn write_record(record: &Record) -> Vec<u8> {
             octets
         }
         Record::Roam { reading, list } => {
-            [vec![0x05], reading.to_le_bytes().to_vec(), addresses_octets(list)].concat()
+            [vec![0x05], reading.to_le_bytes().to_vec(), consoles_octets(list)].concat()
         }
         Record::Change { reading, list } => {
-            [vec![0x06], reading.to_le_bytes().to_vec(), addresses_octets(list)].concat()
+            [vec![0x06], reading.to_le_bytes().to_vec(), consoles_octets(list)].concat()
         }
         Record::Write { buffer, fill, kind, dialog, wanted } => {
             let mut octets = vec![0x10];
@@ -334,8 +351,8 @@ pub fn write_record(record: &Record) -> Vec<u8> {
             octets.extend(wanted.iter().flat_map(wanted_octets));
             octets
         }
-        Record::Read { destination, octets } => {
-            [vec![0x11], destination.to_vec(), counted_octets(octets)].concat()
+        Record::Read { form, destination, octets } => {
+            [vec![0x11, *form], destination.to_vec(), counted_octets(octets)].concat()
         }
         Record::Explain(question) => [vec![0x12], question_octets(question)].concat(),
     }
@@ -431,7 +448,7 @@ fn run_record(
             let written = write_request(&mut lent, *kind, *dialog, wanted);
             line(written.map(Answer::Length)) + &buffer_line(&lent)
         }
-        Record::Read { destination, octets } => list_report(destination, octets),
+        Record::Read { form, destination, octets } => list_report(*form, destination, octets),
         Record::Explain(question) => question.line(station.log()),
     }
 }
@@ -454,13 +471,14 @@ pub fn run_trace(rule: Rule, input: &[u8]) -> Replayed {
         };
         replayed.covered.before(&station, &record);
         let due = order.before(&station, &record);
-        let before = station.latest_reading();
+        let (before, listed) = (station.latest_reading(), station.listed());
         let oldest = station.log().first().filter(|_| station.log().len() == 64).map(|event| event.body.ty());
         let mut chosen = None;
         let printed = run_record(rule, &mut station, &record, &mut chosen);
         replayed.covered.after(&record, oldest, &printed, chosen.as_ref());
         replayed.covered.timed(before, &station, &record, &printed);
         replayed.covered.ordered(&due, chosen.as_ref());
+        replayed.covered.listed(&listed, &record, &printed);
         replayed.covered.explained(station.log(), &record);
         replayed.chosen.extend(chosen);
         replayed.ages.push(station.longest_age());

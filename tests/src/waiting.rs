@@ -142,11 +142,12 @@ fn ends(record: &Record, request: &Outstanding) -> bool {
 mod tests {
     use super::*;
     use crate::cases::{frame, report, CONSOLE, IDENTITY};
+    use crate::form::draft;
     use crate::station::Station;
 
     /// Report calls of a request that is never over, until it took too long.
     fn calls_until_too_long(kind: Kind, ask: &[u8]) -> usize {
-        let mut station = Station::setup(Rule::Elapsed, &IDENTITY, &[CONSOLE]).1;
+        let mut station = Station::setup(Rule::Elapsed, &IDENTITY, &[draft(CONSOLE)]).1;
         let destination = [2, 0, 0, 0, 0, 9];
         station.frame(0, &destination, &CONSOLE, ask).expect("the request is accepted");
         let mut waiting = Waiting::default();

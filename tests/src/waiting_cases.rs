@@ -2,14 +2,17 @@
 //! worked out by hand.
 //!
 //! A report call is lent 260 octets or more. The longest report of an event is that of an RSNA event with an EAP
-//! method of 8 octets and an RSN element: 55 octets. So any four reports fit behind the header, 3 + 4 * 55 = 223,
-//! and a fifth of these does not, 278: a frame that leaves something has four reports or more. Eight elements of
-//! 64 events are 512 reports, so the most frames are 512 / 4 = 128. Shorter events need fewer: of transitions seven
-//! fit, of peer links nine. Loggings make it fewer too: they add nothing, and each drops an event that an element
-//! may not have given yet; if it was the last one, a bare header takes its frame's place. Of diagnostics, the
-//! longest report is an identity of 252 octets: 257 octets, of which one fits, 3 + 257 = 260.
+//! method of 8 octets and an RSN element: 55 octets in form 0, 69 in form 1. So in form 0 any four reports fit behind
+//! the header, 3 + 4 * 55 = 223, and a fifth of these does not, 278: a frame that leaves something has four reports or
+//! more. Eight elements of 64 events are 512 reports, so the most frames are 512 / 4 = 128. In form 1 it is three, 3 +
+//! 3 * 69 = 210, and a fourth does not fit, 279; 512 reports are 170 frames of three and one of two. Shorter events
+//! need fewer: of transitions seven fit in form 0, of peer links nine. Loggings make it fewer too: they add nothing,
+//! and each drops an event that an element may not have given yet; if it was the last one, a bare header takes its
+//! frame's place. Of diagnostics, the longest report is an identity of 252 octets: 257 octets, of which one fits, 3 +
+//! 257 = 260.
 
-use crate::cases::{frame, Case, CONSOLE, IDENTITY};
+use crate::cases::{frame, setup_of, Case, CONSOLE};
+use crate::form::{draft, published};
 use crate::kind_cases::{octets_of, rsna, EXPANDED, RSN};
 use crate::make_identity::STATION;
 use crate::octets::{Address, Kind};
@@ -72,7 +75,20 @@ fn longest_wait() -> Case {
     over(script, EVENT_CALLS - 128).case("an event request of 128 frames")
 }
 
-/// The same with the last four events dropped before the last call, which gives a bare header: 128 as well.
+/// The same of a console of form 1: 170 frames of three events each, and one of two.
+fn longest_published_wait() -> Case {
+    let in_published = |element: String| {
+        let time = "a1a2a3a4a5a6a7a8b1b2b3b4b5b6b7b8b9bac1c2c3c4c5";
+        element.replace("4f35", "4f43").replace("e7033a3b171f0cea07", time)
+    };
+    let events = down_to([1; 8]);
+    let frames = events.chunks(3).map(|three| long_elements(three).into_iter().map(in_published).collect());
+    let start = Script::set_up(setup_of(&[published(CONSOLE)]));
+    let script = frames.fold(asked(start), |script, three: Vec<String>| script.gives(LEAST, &[three]));
+    over(script, EVENT_CALLS - 171).case("an event request of 171 frames")
+}
+
+/// In form 0 with the last four events dropped before the last call, which gives a bare header: 128 as well.
 fn bare_header_last() -> Case {
     let events = down_to([1, 1, 1, 1, 1, 1, 1, 5]);
     let frames = events.chunks(4).map(long_elements);
@@ -98,7 +114,7 @@ fn logged_meanwhile() -> Case {
 /// frame with an equal token, a diagnostic of the same console and its report, a request of another console and its
 /// bare header.
 fn undisturbed() -> Case {
-    let two = Record::Setup { identity: IDENTITY.to_vec(), list: vec![CONSOLE, OTHER] };
+    let two = setup_of(&[draft(CONSOLE), draft(OTHER)]);
     let empty = request(9, &[]);
     let from_other = Record::Frame { reading: 10, destination: STATION, source: OTHER, octets: empty };
     // Type 2 is Incapable.
@@ -133,7 +149,7 @@ fn longest_diagnostic_wait() -> Case {
     let elements = (1..=8).flat_map(|token| [0x50, 4, token, 1, 9, 0]);
     let ask: Vec<u8> = [0x0A, 2, 7].into_iter().chain(elements).collect();
     let octets = hexadecimal(&identity);
-    let mut script = Script::set_up(Record::Setup { identity, list: vec![CONSOLE] }).take(&ask);
+    let mut script = Script::set_up(Record::Setup { identity, list: vec![draft(CONSOLE)] }).take(&ask);
     for token in 1..=8 {
         let frame = format!("0a030751ff{token:02x}0100{octets}");
         script = script.report(CONSOLE, Kind::Diagnostic, LEAST, "length 260", &frame);
@@ -146,6 +162,7 @@ fn longest_diagnostic_wait() -> Case {
 pub fn waiting_cases() -> Vec<(Case, usize)> {
     vec![
         (longest_wait(), 128),
+        (longest_published_wait(), 171),
         (bare_header_last(), 128),
         (logged_meanwhile(), 54),
         (undisturbed(), 128),

@@ -5,6 +5,7 @@ use differential::cases::{cases, Input};
 use differential::clock::{age, is_late, time_units, Moment};
 use differential::clock_cases::clock_cases;
 use differential::explain_cases::explain_cases;
+use differential::forms_cases::forms_cases;
 use differential::kind_cases::kind_cases;
 use differential::listing::{list_report_input, list_request};
 use differential::order_cases::order_cases;
@@ -19,7 +20,8 @@ fn every_case_prints_what_the_papers_say() {
         .chain(kind_cases())
         .chain(clock_cases())
         .chain(order_cases())
-        .chain(explain_cases());
+        .chain(explain_cases())
+        .chain(forms_cases());
     for case in cases.chain(waiting) {
         let printed = match &case.input {
             Input::Frame(octets) => list_request(octets),

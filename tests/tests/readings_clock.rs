@@ -1,6 +1,7 @@
 //! How document 02's request (c) is read: elapsed time. A test for each agreed line.
 
 use differential::clock::{Clock, Moment, Rule, TURN};
+use differential::form::{draft, PublishedTime};
 use differential::octets::{Address, Kind};
 use differential::refusal::refusal;
 use differential::station::{Answer, Logging, Station};
@@ -13,13 +14,14 @@ const HALF: u32 = 2_147_483_648;
 
 /// A station with the requester A.
 fn station(rule: Rule) -> Station {
-    Station::setup(rule, &IDENTITY, &[A]).1
+    Station::setup(rule, &IDENTITY, &[draft(A)]).1
 }
 
 /// Logs a transition.
 fn log(station: &mut Station, reading: u32) {
     let transition = Transition { source: A, target: A, time: 0, reason: 1, result: 0, signal: [0; 4] };
-    let logging = Logging { time: [255; 9], transition, departure: reading };
+    let logging =
+        Logging { time: [255; 9], published: PublishedTime::default(), transition, departure: reading };
     assert_eq!(station.log_transition(reading, &logging), Ok(Answer::Accepted));
 }
 
@@ -113,10 +115,10 @@ fn refused_calls_advance_the_time() {
 fn moves_and_network_changes_keep_the_time() {
     let mut station = station(Rule::Elapsed);
     log(&mut station, 0);
-    assert_eq!(station.roam(HALF, &[A]), Ok(Answer::Accepted));
+    assert_eq!(station.roam(HALF, &[draft(A)]), Ok(Answer::Accepted));
     log(&mut station, 60_000);
     assert_eq!(frequent(&mut station, 60_000, 1), 0);
-    assert_eq!(station.change_network(60_000, &[A]), Ok(Answer::Accepted));
+    assert_eq!(station.change_network(60_000, &[draft(A)]), Ok(Answer::Accepted));
     assert_eq!(station.elapsed(), TURN + 60_000);
     log(&mut station, 60_001);
     log(&mut station, 120_001);
@@ -130,7 +132,7 @@ fn the_consoleless_gate_keeps_time() {
     for reading in [7, HALF, 6] {
         assert_eq!(station.clock(reading), Ok(Answer::Accepted));
     }
-    assert_eq!(station.change_network(8, &[A]), Err(refusal(16, 0)));
+    assert_eq!(station.change_network(8, &[draft(A)]), Err(refusal(16, 0)));
     assert_eq!(station.elapsed(), TURN + 1);
 }
 

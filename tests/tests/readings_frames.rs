@@ -167,13 +167,13 @@ fn the_report_reader_takes_any_tokens_and_any_number() {
     let mut frame = vec![10, 1, 0];
     frame.extend([79, 3, 0, 0, 4].repeat(10));
     let lines = "element 79 token 0 type 0 status 4\n".repeat(10);
-    assert_eq!(list_report(&TO, &frame), format!("report 1 dialog 0 elements 10\n{lines}"));
+    assert_eq!(list_report(0, &TO, &frame), format!("report 1 dialog 0 elements 10\n{lines}"));
 }
 
 #[test]
 fn the_report_reader_refuses_in_order() {
-    let refused = |frame: &[u8]| list_report(&TO, frame);
-    assert_eq!(list_report(&[1, 0, 0, 0, 0, 9], &[]), "refused 11 at 0\n");
+    let refused = |frame: &[u8]| list_report(0, &TO, frame);
+    assert_eq!(list_report(0, &[1, 0, 0, 0, 0, 9], &[]), "refused 11 at 0\n");
     assert_eq!(refused(&[10, 1]), "refused 1 at 0\n");
     assert_eq!(refused(&[10, 2, 7]), "refused 2 at 0\n");
     assert_eq!(refused(&[10, 1, 7, 79, 2, 5, 0]), "refused 5 at 3\n");
@@ -204,15 +204,19 @@ fn event_with_time(time: [u8; 9]) -> Vec<u8> {
 #[test]
 fn time_fields_are_in_range_or_all_ones() {
     let good = [0xE7, 3, 59, 59, 23, 31, 12, 0xFE, 0xFF];
-    let listed = list_report(&TO, &event_with_time(good));
+    let listed = list_report(0, &TO, &event_with_time(good));
     assert!(listed.contains(" time 65534-12-31 23:59:59.999 source 00:00"), "{listed}");
-    let listed = list_report(&TO, &event_with_time([255; 9]));
+    let listed = list_report(0, &TO, &event_with_time([255; 9]));
     assert!(listed.contains(" time ?-?-? ?:?:?.? source"), "{listed}");
-    let listed = list_report(&TO, &event_with_time([7, 0, 0, 0, 0, 1, 1, 7, 0]));
+    let listed = list_report(0, &TO, &event_with_time([7, 0, 0, 0, 0, 1, 1, 7, 0]));
     assert!(listed.contains(" time 0007-01-01 00:00:00.007 source"), "{listed}");
     for (field, wrong) in [(2, 60), (3, 60), (4, 24), (5, 0), (5, 32), (6, 0), (6, 13), (0, 0xE8), (1, 255)] {
         let mut time = good;
         time[field] = wrong;
-        assert_eq!(list_report(&TO, &event_with_time(time)), "refused 14 at 3\n", "field {field}: {wrong}");
+        assert_eq!(
+            list_report(0, &TO, &event_with_time(time)),
+            "refused 14 at 3\n",
+            "field {field}: {wrong}"
+        );
     }
 }

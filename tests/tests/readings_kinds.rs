@@ -2,6 +2,7 @@
 //! events are given, they stand newest first, as request (d) has it.
 
 use differential::clock::Rule;
+use differential::form::{draft, PublishedTime};
 use differential::kind_cases::{
     full_frame, octets_of, peer_link, rsna, EXPANDED, LEGACY, LONG_RSNA, PEER_LINK, RSN, SHORT_RSNA,
 };
@@ -22,13 +23,14 @@ const IDENTITY: [u8; 17] = [13, 3, 0xA, 0xB, 0xC, 11, 1, 65, 12, 1, 66, 14, 1, 6
 
 /// A station with the requester A.
 fn station() -> Station {
-    Station::setup(Rule::Elapsed, &IDENTITY, &[A]).1
+    Station::setup(Rule::Elapsed, &IDENTITY, &[draft(A)]).1
 }
 
 /// Logs a transition, told apart by its reason.
 fn log_transition(station: &mut Station, reading: u32, reason: u8) {
     let transition = Transition { source: A, target: B, time: 0, reason, result: 0, signal: [0; 4] };
-    let logging = Logging { time: [255; 9], transition, departure: reading };
+    let logging =
+        Logging { time: [255; 9], published: PublishedTime::default(), transition, departure: reading };
     assert_eq!(station.log_transition(reading, &logging), Ok(Answer::Accepted));
 }
 
@@ -39,7 +41,8 @@ fn log_rsna(station: &mut Station, logging: &RsnaLogging) {
 
 /// Logs a peer link event.
 fn log_link(station: &mut Station, link: PeerLink) {
-    assert_eq!(station.log_peer_link(0, &PeerLogging { time: [255; 9], link }), Ok(Answer::Accepted));
+    let logging = PeerLogging { time: [255; 9], published: PublishedTime::default(), link };
+    assert_eq!(station.log_peer_link(0, &logging), Ok(Answer::Accepted));
 }
 
 /// The peer link event of the cases, with a connection time that tells it apart.
@@ -353,7 +356,7 @@ fn a_frame_of_2304_octets_and_no_longer_one() {
 /// A report frame with one element of this type, status and octets behind it.
 fn listed(ty: u8, status: u8, behind: &[u8]) -> String {
     let length = 3 + behind.len() as u8;
-    list_report(&TO, &[&[10, 1, 7, 79, length, 5, ty, status][..], behind].concat())
+    list_report(0, &TO, &[&[10, 1, 7, 79, length, 5, ty, status][..], behind].concat())
 }
 
 #[test]
@@ -436,13 +439,16 @@ fn a_request_of_eight_elements_of_either_type_fits_267_octets() {
 #[test]
 fn the_records_that_log_by_hand() {
     let rsna_octets = octets_of(
-        "070a000000e7033a3b171f0cea07020101010102000fac010d919293949596971116\
-         0030140100000fac040100000fac040100000fac010000",
+        "070a000000e7033a3b171f0cea07a1a2a3a4a5a6a7a8b1b2b3b4b5b6b7b8b9bac1c2c3c4c5020101010102000fac01\
+         0d9192939495969711160030140100000fac040100000fac040100000fac010000",
     );
     let record = Record::LogRsna { reading: 10, logging: rsna(LEGACY, &RSN) };
     assert_eq!(write_record(&record), rsna_octets);
     assert_eq!(read_record(&rsna_octets), Some((record, rsna_octets.len())));
-    let peer_octets = octets_of("080a000000e7033a3b171f0cea0702010101010151061401020303");
+    let peer_octets = octets_of(
+        "080a000000e7033a3b171f0cea07a1a2a3a4a5a6a7a8b1b2b3b4b5b6b7b8b9bac1c2c3c4c5\
+         02010101010151061401020303",
+    );
     let record = Record::LogPeerLink { reading: 10, logging: peer_link() };
     assert_eq!(write_record(&record), peer_octets);
     assert_eq!(read_record(&peer_octets), Some((record, peer_octets.len())));
@@ -490,8 +496,8 @@ fn a_move_keeps_events_of_every_kind_and_a_network_change_none() {
     let mut station = station();
     log_rsna(&mut station, &rsna(LEGACY, &[]));
     log_link(&mut station, link(1));
-    assert_eq!(station.roam(0, &[A]), Ok(Answer::Accepted));
+    assert_eq!(station.roam(0, &[draft(A)]), Ok(Answer::Accepted));
     assert_eq!([1, 2].map(|ty| number_given(&mut station, ty, &[])), [1, 1]);
-    assert_eq!(station.change_network(0, &[A]), Ok(Answer::Accepted));
+    assert_eq!(station.change_network(0, &[draft(A)]), Ok(Answer::Accepted));
     assert_eq!([1, 2].map(|ty| number_given(&mut station, ty, &[])), [0, 0]);
 }

@@ -2,6 +2,7 @@
 
 use differential::clock::Rule;
 use differential::event_request::Event;
+use differential::form::{draft, Console, EventTime, Form, PublishedTime};
 use differential::make_events::log_record;
 use differential::make_requests::{request_frame, Taste};
 use differential::octets::{Address, Kind};
@@ -16,15 +17,16 @@ const A: Address = [2, 0, 0, 0, 0, 1];
 const TO: Address = [2, 0, 0, 0, 0, 9];
 const IDENTITY: [u8; 17] = [13, 3, 0xA, 0xB, 0xC, 11, 1, 65, 12, 1, 66, 14, 1, 67, 9, 1, 68];
 
-/// A station with the requester A.
+/// A station with the requester A, of form 0.
 fn station() -> Station {
-    Station::setup(Rule::Elapsed, &IDENTITY, &[A]).1
+    Station::setup(Rule::Elapsed, &IDENTITY, &[draft(A)]).1
 }
 
 /// Logs a transition that is told apart by its reason.
 fn log(station: &mut Station, reading: u32, reason: u8) {
     let transition = Transition { source: A, target: A, time: 0, reason, result: 0, signal: [0; 4] };
-    let logging = Logging { time: [255; 9], transition, departure: reading };
+    let logging =
+        Logging { time: [255; 9], published: PublishedTime::default(), transition, departure: reading };
     assert_eq!(station.log_transition(reading, &logging), Ok(Answer::Accepted));
 }
 
@@ -70,7 +72,7 @@ fn what_did_not_match_does_not_match_later() {
 
 /// What an element is to give of a log to which nothing is added: "the latest .. that match, or all if fewer", as
 /// many as its limit; one report of length 3 where there is none, or where its type is not reported.
-fn newest(element: &RequestElement, log: &[Event]) -> Vec<ReportElement> {
+fn newest(element: &RequestElement, log: &[Event], form: Form) -> Vec<ReportElement> {
     let RequestElement { token, ty, bound, conditions, .. } = element;
     let report = |status, rest| ReportElement { token: *token, ty: *ty, status, rest };
     if *ty > 2 {
@@ -81,7 +83,7 @@ fn newest(element: &RequestElement, log: &[Event]) -> Vec<ReportElement> {
         let event = &log[place];
         let meets = event.body.ty() == *ty && conditions.iter().all(|one| one.admits(event, &log[..=place]));
         if meets && events.len() < usize::from(*bound) {
-            events.push(report(0, Rest::Event(event.time, event.body.clone())));
+            events.push(report(0, Rest::Event(EventTime::of(event, form), event.body.clone())));
         }
     }
     if events.is_empty() {
@@ -95,7 +97,9 @@ fn with_nothing_logged_after_acceptance_each_element_gives_the_newest_that_match
     let mut several_calls = 0;
     for index in 0..3000 {
         let random = &mut Random::new(1, 4, index);
-        let mut station = station();
+        let form = random.pick(&[Form::Draft, Form::Published]);
+        let console = Console { address: A, form: form.number() };
+        let mut station = Station::setup(Rule::Elapsed, &IDENTITY, &[console]).1;
         for _ in 0..random.pick(&[0, 1, 5, 20, 64, 70, 100]) {
             let ty = random.pick(&[0, 0, 1, 2]);
             match log_record(random, ty, 60_000, 16, 0) {
@@ -108,7 +112,8 @@ fn with_nothing_logged_after_acceptance_each_element_gives_the_newest_that_match
         }
         let octets = request_frame(random, Kind::Event, 7, Taste { faulty: 0, cancels: 0 });
         let Ok(request) = read_request(&octets) else { continue };
-        let expected: Vec<_> = request.elements.iter().flat_map(|one| newest(one, station.log())).collect();
+        let expected: Vec<_> =
+            request.elements.iter().flat_map(|one| newest(one, station.log(), form)).collect();
         station.frame(60_000, &TO, &A, &octets).expect("the frame can be read");
         let (mut given, mut calls) = (Vec::new(), 0);
         loop {

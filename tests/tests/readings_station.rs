@@ -3,6 +3,7 @@
 
 use differential::clock::Rule;
 use differential::event_body::EventBody;
+use differential::form::{draft, Console, EventTime, Form, PublishedTime};
 use differential::octets::{Address, Kind};
 use differential::refusal::{refusal, Refusal};
 use differential::report::{ReportElement, ReportFrame, Rest};
@@ -14,9 +15,9 @@ const B: Address = [2, 0, 0, 0, 0, 2];
 const TO: Address = [2, 0, 0, 0, 0, 9];
 const IDENTITY: [u8; 17] = [13, 3, 0xA, 0xB, 0xC, 11, 1, 65, 12, 1, 66, 14, 1, 67, 9, 1, 68];
 
-/// A station with the requesters A and B.
+/// A station with the requesters A and B, of form 0.
 fn station() -> Station {
-    let (answer, station) = Station::setup(Rule::Elapsed, &IDENTITY, &[A, B]);
+    let (answer, station) = Station::setup(Rule::Elapsed, &IDENTITY, &[draft(A), draft(B)]);
     assert_eq!(answer, Ok(Answer::Accepted));
     station
 }
@@ -29,7 +30,8 @@ fn log(station: &mut Station, reading: u32, reason: u8) {
 /// The same with a result.
 fn log_with(station: &mut Station, reading: u32, reason: u8, result: u16) {
     let transition = Transition { source: A, target: B, time: 0, reason, result, signal: [0; 4] };
-    let logging = Logging { time: [255; 9], transition, departure: reading };
+    let logging =
+        Logging { time: [255; 9], published: PublishedTime::default(), transition, departure: reading };
     assert_eq!(station.log_transition(reading, &logging), Ok(Answer::Accepted));
 }
 
@@ -325,20 +327,23 @@ fn a_report_call_tells_what_it_chose() {
     let transition =
         Transition { source: A, target: B, time: 0, reason: 6, result: 258, signal: [1, 2, 3, 4] };
     let time = [231, 3, 59, 59, 23, 31, 12, 234, 7];
-    let logging = Logging { time, transition: transition.clone(), departure: 4_294_967_290 };
+    let (published, departure) = (PublishedTime::default(), 4_294_967_290);
+    let logging = Logging { time, published, transition: transition.clone(), departure };
     assert_eq!(station.log_transition(10, &logging), Ok(Answer::Accepted));
     ask(&mut station, 10, &[10, 0, 7, 78, 3, 5, 0, 4, 78, 3, 6, 9, 0, 78, 3, 8, 0, 0]);
     ask(&mut station, 10, &[10, 2, 8, 80, 4, 0, 1, 9, 0, 80, 4, 1, 2, 9, 0]);
     let mut chosen = |kind| station.report(10, &A, kind, &mut [0; 260]).expect("A is listed").1;
     let element = |token, ty, status, rest| ReportElement { token, ty, status, rest };
     // Departure 4,294,967,290, arrival 10: 15 TU. The limit of token 8 is 0.
-    let event = Rest::Event(time, EventBody::Transition(Transition { time: 15, ..transition }));
+    let body = EventBody::Transition(Transition { time: 15, ..transition });
+    let event = Rest::Event(EventTime::Draft(time), body);
     let elements =
         vec![element(5, 0, 0, event), element(6, 9, 3, Rest::Nothing), element(8, 0, 0, Rest::Nothing)];
-    assert_eq!(chosen(Kind::Event), Some(ReportFrame { kind: Kind::Event, dialog: 7, elements }));
+    let frame = |kind, dialog, elements| ReportFrame { form: Form::Draft, kind, dialog, elements };
+    assert_eq!(chosen(Kind::Event), Some(frame(Kind::Event, 7, elements)));
     // The identity has five subelements.
     let elements = vec![element(0, 1, 0, Rest::Subelements(5)), element(1, 2, 3, Rest::Subelements(0))];
-    assert_eq!(chosen(Kind::Diagnostic), Some(ReportFrame { kind: Kind::Diagnostic, dialog: 8, elements }));
+    assert_eq!(chosen(Kind::Diagnostic), Some(frame(Kind::Diagnostic, 8, elements)));
     assert_eq!(chosen(Kind::Event), None);
 }
 
@@ -375,7 +380,7 @@ fn the_longest_identity_fits_the_shortest_buffer() {
     identity.extend([9; 236]);
     identity.extend([12, 1, 1, 14, 1, 1, 9, 1, 1]);
     assert_eq!(identity.len(), 252);
-    let (answer, mut station) = Station::setup(Rule::Elapsed, &identity, &[A]);
+    let (answer, mut station) = Station::setup(Rule::Elapsed, &identity, &[draft(A)]);
     assert_eq!(answer, Ok(Answer::Accepted));
     ask(&mut station, 0, &diagnostic(7, 5, 1, 9));
     let (answer, frame) = give(&mut station, 0, Kind::Diagnostic, 260);
@@ -408,8 +413,9 @@ fn the_65th_event_drops_the_oldest() {
 #[test]
 fn console_lists_that_are_refused() {
     let group = [3, 0, 0, 0, 0, 1];
-    let five: Vec<Address> = (1..=5).map(|last| [2, 0, 0, 0, 0, last]).collect();
-    for list in [vec![], five.clone(), vec![A, B, A], vec![A, group]] {
+    let five: Vec<Console> = (1..=5).map(|last| draft([2, 0, 0, 0, 0, last])).collect();
+    let repeated = vec![draft(A), draft(B), draft(A)];
+    for list in [vec![], five.clone(), repeated, vec![draft(A), draft(group)]] {
         assert_eq!(Station::setup(Rule::Elapsed, &[], &list).0, Err(refusal(15, 0)));
         assert_eq!(station().roam(0, &list), Err(refusal(15, 0)));
         assert_eq!(station().change_network(0, &list), Err(refusal(15, 0)));
@@ -419,7 +425,8 @@ fn console_lists_that_are_refused() {
 
 #[test]
 fn identities_that_are_refused() {
-    let refused = |identity: &[u8]| Station::setup(Rule::Elapsed, identity, &[A]).0 == Err(refusal(16, 0));
+    let refused =
+        |identity: &[u8]| Station::setup(Rule::Elapsed, identity, &[draft(A)]).0 == Err(refusal(16, 0));
     assert!(refused(&[]));
     assert!(refused(&IDENTITY[..16]));
     assert!(refused(&IDENTITY[..14]));
@@ -440,18 +447,19 @@ fn identities_that_are_refused() {
 
 #[test]
 fn the_consoleless_gate() {
-    for (identity, list) in [(&IDENTITY[..], &[][..]), (&[][..], &[A][..])] {
+    for (identity, list) in [(&IDENTITY[..], &[][..]), (&[][..], &[draft(A)][..])] {
         let mut station = Station::setup(Rule::Elapsed, identity, list).1;
         assert_eq!(station.clock(0), Ok(Answer::Accepted));
         log(&mut station, 0, 1);
         let transition = Transition { source: A, target: B, time: 0, reason: 0, result: 0, signal: [0; 4] };
-        let wrong_time = Logging { time: [0; 9], transition, departure: 0 };
+        let wrong_time =
+            Logging { time: [0; 9], published: PublishedTime::default(), transition, departure: 0 };
         assert_eq!(station.log_transition(0, &wrong_time), Err(refusal(14, 0)));
         assert_eq!(station.frame(0, &TO, &A, &[10, 0, 7]), Err(refusal(12, 0)));
         assert_eq!(station.report(0, &A, Kind::Event, &mut []), Err(refusal(12, 0)));
-        assert_eq!(station.roam(0, &[A, A]), Err(refusal(15, 0)));
-        assert_eq!(station.roam(0, &[A]), Err(refusal(16, 0)));
-        assert_eq!(station.change_network(0, &[A]), Err(refusal(16, 0)));
+        assert_eq!(station.roam(0, &[draft(A), draft(A)]), Err(refusal(15, 0)));
+        assert_eq!(station.roam(0, &[draft(A)]), Err(refusal(16, 0)));
+        assert_eq!(station.change_network(0, &[draft(A)]), Err(refusal(16, 0)));
         assert_eq!(station.frame(0, &TO, &A, &[10, 0, 7]), Err(refusal(12, 0)));
     }
 }
@@ -463,15 +471,15 @@ fn a_move_keeps_the_log_and_drops_every_request() {
     ask(&mut station, 0, &asking(7, &[]));
     ask(&mut station, 0, &diagnostic(7, 1, 2, 9));
     // A refused move drops nothing.
-    assert_eq!(station.roam(0, &[A, A]), Err(refusal(15, 0)));
+    assert_eq!(station.roam(0, &[draft(A), draft(A)]), Err(refusal(15, 0)));
     assert_eq!(give(&mut station, 0, Kind::Diagnostic, 260).0, Ok(Answer::Length(8)));
     ask(&mut station, 0, &diagnostic(7, 1, 2, 9));
-    assert_eq!(station.roam(0, &[A, B]), Ok(Answer::Accepted));
+    assert_eq!(station.roam(0, &[draft(A), draft(B)]), Ok(Answer::Accepted));
     assert_eq!(give(&mut station, 0, Kind::Event, 260).0, Ok(Answer::Nothing));
     assert_eq!(give(&mut station, 0, Kind::Diagnostic, 260).0, Ok(Answer::Nothing));
     ask(&mut station, 0, &asking(7, &[]));
     assert_eq!(events(&mut station, 0), [1]);
-    assert_eq!(station.roam(0, &[B]), Ok(Answer::Accepted));
+    assert_eq!(station.roam(0, &[draft(B)]), Ok(Answer::Accepted));
     assert_eq!(give(&mut station, 0, Kind::Event, 260).0, Err(refusal(12, 0)));
 }
 
@@ -482,7 +490,7 @@ fn a_network_change_empties_the_log() {
     assert_eq!(station.change_network(0, &[]), Err(refusal(15, 0)));
     ask(&mut station, 0, &asking(7, &[]));
     assert_eq!(events(&mut station, 0), [1]);
-    assert_eq!(station.change_network(0, &[A]), Ok(Answer::Accepted));
+    assert_eq!(station.change_network(0, &[draft(A)]), Ok(Answer::Accepted));
     ask(&mut station, 0, &asking(7, &[]));
     assert_eq!(events(&mut station, 0), [1000]);
     log(&mut station, 0, 2);

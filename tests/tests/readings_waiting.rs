@@ -1,6 +1,7 @@
 //! How document 02's request (e) is read: how many frames a request is given until it is over.
 
 use differential::cases::{frame, report, setup, Input, CONSOLE};
+use differential::form::draft;
 use differential::make_traces::trace;
 use differential::octets::Kind;
 use differential::random::Random;
@@ -59,8 +60,8 @@ fn what_was_replaced_cancelled_or_ended_by_a_move_is_not_over() {
     assert_eq!(over(&replaced), [(1, 1), (0, 0)]);
     assert_eq!(over(&[diagnostic(0, 7, 2), diagnostic(0, 7, 0)]), [(0, 0), (0, 0)]);
     for end in [
-        Record::Roam { reading: 0, list: vec![CONSOLE] },
-        Record::Change { reading: 0, list: vec![CONSOLE] },
+        Record::Roam { reading: 0, list: vec![draft(CONSOLE)] },
+        Record::Change { reading: 0, list: vec![draft(CONSOLE)] },
         setup(),
     ] {
         assert_eq!(over(&[frame(0, &[10, 0, 7]), diagnostic(0, 7, 2), end]), [(0, 0), (0, 0)]);

@@ -52,9 +52,9 @@ among-entries xs log e x m = rw e (among-map entryFor m)
 
 -- ---- events
 
-module _ (i : List ℕ) (cs : List Call) (whole : WellFormed cs) (log : List Entry) (j : LoggedBy cs log) where
+module _ (form : ℕ) (i : List ℕ) (cs : List Call) (whole : WellFormed cs) (log : List Entry) (j : LoggedBy cs log) where
   abbrev Told·event : List ℕ → Type 0
-  Told·event o = Tells Event (Good i cs log Event) o
+  Told·event o = Tells form Event (Good i cs log Event) o
 
   -- what is next tells something
   abbrev AllTell : Option (Piece EventRequest) → Type 0
@@ -67,7 +67,7 @@ module _ (i : List ℕ) (cs : List Call) (whole : WellFormed cs) (log : List Ent
   unfolding contentOctets
   plain-tell x status few = record { content = statusOnly (x .token) (x .ty) status; octets = refl; good = (few, tt) }
 
-  event-tell : (token place : ℕ) → place < length log → Told·event (eventElement token (getD log place pastLog))
+  event-tell : (token place : ℕ) → place < length log → Told·event (eventElement form token (getD log place pastLog))
   unfolding contentOctets
   event-tell token place h =
       let r = entry-at (j .list) place pastLog (omega (arith, ap length (j .is))) in
@@ -75,7 +75,7 @@ module _ (i : List ℕ) (cs : List Call) (whole : WellFormed cs) (log : List Ent
       let accepts = log-good (r .0 .event) (all-among (j .good) (r .1)) in
       record {
         content = loggedEvent token (r .0);
-        octets = ap (eventElement token) (ap (λ (l : List Entry). getD l place pastLog) (j .is) ∙ r .2);
+        octets = ap (eventElement form token) (ap (λ (l : List Entry). getD l place pastLog) (j .is) ∙ r .2);
         good = ((whole (r .0) m, accepts .0, accepts .1), (m, among-entries (j .list) log (j .is) (r .0) (r .1)));
       }
 
@@ -83,32 +83,32 @@ module _ (i : List ℕ) (cs : List Call) (whole : WellFormed cs) (log : List Ent
   place-within r x place e = next-event .given elapsedSince log r x place e .eligible .logged
 
   module _ (r : EventRequest) (x : Element) (xs : List Element) (behind : Option (Piece EventRequest)) (later-tells : AllTell behind) where
-    report-tell : (o : Option ℕ) → nextEventPlace elapsedSince log r x ≡ o → AllTell (reportFront log r x xs behind o)
+    report-tell : (o : Option ℕ) → nextEventPlace elapsedSince log r x ≡ o → AllTell (reportFront form log r x xs behind o)
     unfolding reportFront
     report-tell (some place) e = one-tell _ (event-tell (x .token) place (place-within r x place e))
     report-tell none e = either AllTell _ _ _ (λ _. one-tell _ (plain-tell x successful (omega arith))) (λ _. later-tells)
 
-    treat-tell : (t : Treatment) → AllTell (treatFront elapsedSince log r x xs behind t)
+    treat-tell : (t : Treatment) → AllTell (treatFront elapsedSince form log r x xs behind t)
     unfolding treatFront
     treat-tell Report = report-tell (nextEventPlace elapsedSince log r x) refl
     treat-tell Incapable = one-tell _ (plain-tell x incapable (omega arith))
     treat-tell Cancel = later-tells
     treat-tell Identity = later-tells
 
-  from-tell : (r : EventRequest) (xs : List Element) → AllTell (nextFrom elapsedSince log r xs)
+  from-tell : (r : EventRequest) (xs : List Element) → AllTell (nextFrom elapsedSince form log r xs)
   unfolding nextFrom
   from-tell r [] = λ p e. never cc
-  from-tell r (x ∷ xs) = treat-tell r x xs (nextFrom elapsedSince log (without r xs) xs) (from-tell (without r xs) xs) (eventTreatment (x .ty))
+  from-tell r (x ∷ xs) = treat-tell r x xs (nextFrom elapsedSince form log (without r xs) xs) (from-tell (without r xs) xs) (eventTreatment (x .ty))
 
-  pub events-tell : (r : EventRequest) (p : Piece EventRequest) → nextEvent elapsedSince log r ≡ some p → Tells Event (Good i cs log Event) (p .octets)
+  pub events-tell : (r : EventRequest) (p : Piece EventRequest) → nextEvent elapsedSince form log r ≡ some p → Tells form Event (Good i cs log Event) (p .octets)
   unfolding nextEvent
   events-tell r p e = from-tell r (r .elements) p e
 
 -- ---- diagnostics
 
-module _ (i : List ℕ) (cs : List Call) (log : List Entry) (good : goodIdentity i ≡ true) where
+module _ (form : ℕ) (i : List ℕ) (cs : List Call) (log : List Entry) (good : goodIdentity i ≡ true) where
   abbrev Told·diagnostic : List ℕ → Type 0
-  Told·diagnostic o = Tells Diagnostic (Good i cs log Diagnostic) o
+  Told·diagnostic o = Tells form Diagnostic (Good i cs log Diagnostic) o
 
   incapable-tell : (x : DiagnosticElement) → Told·diagnostic (reportElement Diagnostic (x .token) (x .ty) incapable [])
   unfolding contentOctets
@@ -123,7 +123,7 @@ module _ (i : List ℕ) (cs : List Call) (log : List Entry) (good : goodIdentity
   treated-tell x Cancel = incapable-tell x
   treated-tell x Report = incapable-tell x
 
-  pub diagnostics-tell : (xs : List DiagnosticElement) (p : Piece (List DiagnosticElement)) → nextDiagnostic i xs ≡ some p → Tells Diagnostic (Good i cs log Diagnostic) (p .octets)
+  pub diagnostics-tell : (xs : List DiagnosticElement) (p : Piece (List DiagnosticElement)) → nextDiagnostic i xs ≡ some p → Tells form Diagnostic (Good i cs log Diagnostic) (p .octets)
   unfolding nextDiagnostic
   diagnostics-tell [] p e = never cc
   diagnostics-tell (x ∷ xs) p e = rw (← Option·some-injective _ p e) (treated-tell x (diagnosticTreatment (x .ty)))

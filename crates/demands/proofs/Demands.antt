@@ -12,7 +12,7 @@ use Rattle.octets.specs.declared.numbers.Kind.the-variants.{Event, Diagnostic}
 use Rattle.octets.specs.declared.refusals.Refusal.{Refusal}
 use Rattle.events.specs.Loggings.{Logging, EventLengths}
 use Rattle.model.specs.Clocks.{elapsedClock}
-use Rattle.model.specs.Model.{standard, Address, Call, clock, frame, report, roam, change, Result, ofLength, turnedAway}
+use Rattle.model.specs.Model.{standard, Address, Listed, Call, clock, frame, report, roam, change, Result, ofLength, turnedAway}
 use Rattle.model.specs.Model.{Station as Model·Station}
 use Rattle.model.specs.Stations.{setup, timed, readingOf, step}
 use Rattle.model.specs.Refusals.{lentBuffer}
@@ -35,8 +35,8 @@ use Rattle.station.specs.declared.Outcome.{Outcome}
 use Rattle.station.specs.Views.{view, viewOutcome}
 use Rattle.demands.specs.StationRoundTrip.{WellFormed, RoundTrip}
 use Rattle.demands.specs.Chains.{Made, Allowed, Chain, none-made, made, SetUp}
-use Rattle.demands.specs.Demands.{CodeLeftAlone, Total, CodeLeftUnnamed, TotalSetup, callOf, Exact, answered, replied, ShortOfTop, IndependentRequesters, IndependentShortChain, AnswersAsBefore, TimeIsTrue, givenTo, GivesNewestFirst, framesMade, CodeOverWithin, RequestsAreOver, MadeInOrder, OrderLeavesNoTrace}
-use Rattle.demands.proofs.StationRoundTrip.{station-round-trip}
+use Rattle.demands.specs.Demands.{CodeLeftAlone, Total, CodeLeftUnnamed, TotalSetup, callOf, Exact, NeverShowsWrongTime, answered, replied, ShortOfTop, IndependentRequesters, IndependentShortChain, AnswersAsBefore, TimeIsTrue, givenTo, GivesNewestFirst, framesMade, CodeOverWithin, RequestsAreOver, MadeInOrder, OrderLeavesNoTrace}
+use Rattle.demands.proofs.StationRoundTrip.{station-round-trip, never-shown}
 
 -- ---- what an allowed call gives is what the model gives
 
@@ -79,7 +79,7 @@ chain-run none-made = refl
 chain-run (made {ms = ms} a c) = chain-run c ∙ ap (λ (x : Model·Station). run elapsedClock standard x (map callOf ms)) (station-is a)
 
 -- the first from setup
-module _ (i : List ℕ) (l : List Address) (o : Outcome) (s : SetUp i l o) where
+module _ (i : List ℕ) (l : List Listed) (o : Outcome) (s : SetUp i l o) where
   start-is : view (o .station) ≡ setup standard i l .station
   unfolding viewOutcome
   start-is = ap (λ (x : Result). x .station) s
@@ -109,6 +109,11 @@ exact i l o ms g s c m t a kind b n allowed is e =
     let trip = station-round-trip standard i l (map callOf ms) (chain-formed c) t a kind b n answer in
     rw (here, buffer-is allowed, there (m .call) is) trip
 
+-- ---- document 02 (g)
+
+pub never-shows-wrong-time : NeverShowsWrongTime
+never-shows-wrong-time i l o ms g s c m t a b n allowed is e = never-shown i (map callOf ms) _ a n _ (exact i l o ms g s c m t a Event b n allowed is e)
+
 -- ---- demand 3
 
 chain-answers : {g h : Station} {ms : List Made} → Chain g ms h → map replied ms ≡ answers standard (view g) (map callOf ms)
@@ -119,7 +124,7 @@ chain-answers (made {g = g} {m = m} {ms = ms} a c) =
     let there : map replied ms ≡ answers standard (step elapsedClock standard (view g) (m .call) .station) (map callOf ms) = chain-answers c ∙ ap (λ (x : Model·Station). answers standard x (map callOf ms)) (station-is a) in
     rw (here, there)
 
-answers-from-setup : (i : List ℕ) (l : List Address) (o : Outcome) {g : Station} {ms : List Made} → SetUp i l o → Chain (o .station) ms g
+answers-from-setup : (i : List ℕ) (l : List Listed) (o : Outcome) {g : Station} {ms : List Made} → SetUp i l o → Chain (o .station) ms g
     → map replied ms ≡ answers standard (setup standard i l .station) (map callOf ms)
 answers-from-setup i l o {ms = ms} s c = chain-answers c ∙ ap (λ (x : Model·Station). answers standard x (map callOf ms)) (start-is i l o s)
 
@@ -195,7 +200,7 @@ code-over-within kind bound x = record {
       (x .while-it-stays i l (map callOf ms) (map callOf later) (chain-handed c) (chain-handed c′) t n d s b (rw here at opens) (rw after at stays));
 }
   where
-    opened : (i : List ℕ) (l : List Address) (cs : List Call) {g : Station} {m : Made} → Allowed g m → view g ≡ run elapsedClock standard (setup standard i l .station) cs → (y : Call) → m .call ≡ y
+    opened : (i : List ℕ) (l : List Listed) (cs : List Call) {g : Station} {m : Made} → Allowed g m → view g ≡ run elapsedClock standard (setup standard i l .station) cs → (y : Call) → m .call ≡ y
         → view (m .outcome .station) ≡ step elapsedClock standard (run elapsedClock standard (setup standard i l .station) cs) y .station
     opened i l cs a here y is = station-is a ∙ ap₂ (λ (g : Model·Station) (c : Call). step elapsedClock standard g c .station) here is
 

@@ -5,7 +5,7 @@ use mathlib.Core.Path.{_≡_}
 use mathlib.Core.List.{List, [], _∷_}
 use Prim.Native.Nat.{ℕ}
 use Rattle.model.specs.Clocks.{elapsedClock}
-use Rattle.model.specs.Model.{standard, Address, Call}
+use Rattle.model.specs.Model.{standard, Listed, Call}
 use Rattle.model.specs.Stations.{setup, step}
 use Rattle.model.specs.Runs.{HandedIn}
 use Rattle.station.specs.declared.Station.{Station}
@@ -29,5 +29,5 @@ pub data Chain : Station → List Made → Station → Type 0 where
   made : {g h : Station} {m : Made} {ms : List Made} → Allowed g m → Chain (m .outcome .station) ms h → Chain g (m ∷ ms) h
 
 -- the first from setup: its contract's equation
-abbrev pub SetUp : List ℕ → List Address → Outcome → Type 0
+abbrev pub SetUp : List ℕ → List Listed → Outcome → Type 0
 SetUp i l o = viewOutcome o [] ≡ setup standard i l

@@ -1,4 +1,4 @@
--- The three demands and document 02 (c), (d), (e) and (j), said of the code: for every chain of stations and answers in which each is what its method's contract allows of the
+-- The three demands and document 02 (c), (d), (e), (g) and (j), said of the code: for every chain of stations and answers in which each is what its method's contract allows of the
 -- one before, the first from setup. Their proofs are in proofs/Demands.antt.
 -- Assumes nothing.
 use Prim.Native.Nat.{ℕ, _+_, _-_, _%_, _<_, min}
@@ -15,7 +15,8 @@ use Rattle.octets.specs.declared.refusals.Refusal.{Refusal}
 use Rattle.octets.specs.Addresses.{same}
 use Rattle.requests.specs.Requests.{readRequest}
 use Rattle.model.specs.Clocks.{counterClock, elapsedClock}
-use Rattle.model.specs.Model.{standard, Address, Call, clock, frame, report, roam, change, accepted, ofLength, turnedAway}
+use Rattle.model.specs.Model.{standard, Address, Listed, Call, clock, frame, report, roam, change, accepted, ofLength, turnedAway}
+use Rattle.model.specs.Requesters.{formOf}
 use Rattle.model.specs.Outstanding.{outstandingDialog}
 use Rattle.model.specs.Stations.{setup, tick, readingOf, nobody}
 use Rattle.model.specs.Refusals.{lentBuffer, causesOf, setupCauses, RefusedBy}
@@ -29,7 +30,7 @@ use Rattle.requesters.specs.Views.{viewAnswer}
 use Rattle.station.specs.declared.Station.{Station}
 use Rattle.station.specs.declared.Outcome.{Outcome}
 use Rattle.station.specs.Views.{view}
-use Rattle.demands.specs.StationRoundTrip.{RoundTrip}
+use Rattle.demands.specs.StationRoundTrip.{RoundTrip, NeverShown}
 use Rattle.demands.specs.Chains.{Made, Allowed, Chain, SetUp}
 
 -- ---- demand 1
@@ -49,7 +50,7 @@ pub record CodeLeftUnnamed (o : Outcome) (r : Refusal) : Type 0 where
   pub station : view (o .station) ≡ nobody
 
 abbrev pub TotalSetup : Type 0
-TotalSetup = (i : List ℕ) (l : List Address) (o : Outcome) (r : Refusal) → SetUp i l o → viewAnswer (o .answer) ≡ turnedAway r → CodeLeftUnnamed o r
+TotalSetup = (i : List ℕ) (l : List Listed) (o : Outcome) (r : Refusal) → SetUp i l o → viewAnswer (o .answer) ≡ turnedAway r → CodeLeftUnnamed o r
 
 -- ---- demand 2, reports
 
@@ -59,9 +60,16 @@ callOf m = m .call
 -- a report call m behind a chain, answered with a length n
 abbrev pub Exact : Type 0
 Exact =
-    (i : List ℕ) (l : List Address) (o : Outcome) (ms : List Made) (g : Station) → SetUp i l o → Chain (o .station) ms g
+    (i : List ℕ) (l : List Listed) (o : Outcome) (ms : List Made) (g : Station) → SetUp i l o → Chain (o .station) ms g
     → (m : Made) (t : ℕ) (a : Address) (kind : Kind) (b : List ℕ) (n : ℕ) → Allowed g m → m .call ≡ report t a kind b → viewAnswer (m .outcome .answer) ≡ ofLength n
     → RoundTrip i (map callOf ms) (tick elapsedClock t (view g)) a kind n (m .buffer)
+
+-- document 02 (g): such a call for events, whose frame goes to a reader that is told the other form
+abbrev pub NeverShowsWrongTime : Type 0
+NeverShowsWrongTime =
+    (i : List ℕ) (l : List Listed) (o : Outcome) (ms : List Made) (g : Station) → SetUp i l o → Chain (o .station) ms g
+    → (m : Made) (t : ℕ) (a : Address) (b : List ℕ) (n : ℕ) → Allowed g m → m .call ≡ report t a Event b → viewAnswer (m .outcome .answer) ≡ ofLength n
+    → NeverShown (tick elapsedClock t (view g)) a n (m .buffer)
 
 -- ---- demand 3
 
@@ -79,13 +87,13 @@ ShortOfTop m = view (m .outcome .station) .timer .now < elapsedTop
 
 abbrev pub IndependentRequesters : Type 0
 IndependentRequesters =
-    (i : List ℕ) (l : List Address) (o : Outcome) (ms : List Made) (g : Station) → SetUp i l o → Chain (o .station) ms g → All ShortOfTop ms
+    (i : List ℕ) (l : List Listed) (o : Outcome) (ms : List Made) (g : Station) → SetUp i l o → Chain (o .station) ms g → All ShortOfTop ms
     → map replied ms ≡ freshAnswers standard i (from l) (setup standard i l .station) (map callOf ms)
 
 -- so it is in every chain of fewer calls than a turn has milliseconds
 abbrev pub IndependentShortChain : Type 0
 IndependentShortChain =
-    (i : List ℕ) (l : List Address) (o : Outcome) (ms : List Made) (g : Station) → SetUp i l o → Chain (o .station) ms g → length ms < turn
+    (i : List ℕ) (l : List Listed) (o : Outcome) (ms : List Made) (g : Station) → SetUp i l o → Chain (o .station) ms g → length ms < turn
     → map replied ms ≡ freshAnswers standard i (from l) (setup standard i l .station) (map callOf ms)
 
 -- ---- document 02 (c)
@@ -93,14 +101,14 @@ IndependentShortChain =
 -- "old and new answers agree as long as no age taken has reached a turn"
 abbrev pub AnswersAsBefore : Type 0
 AnswersAsBefore =
-    (i : List ℕ) (l : List Address) (o : Outcome) (ms : List Made) (g : Station) → SetUp i l o → Chain (o .station) ms g
+    (i : List ℕ) (l : List Listed) (o : Outcome) (ms : List Made) (g : Station) → SetUp i l o → Chain (o .station) ms g
     → Always Young elapsedClock standard (setup standard i l .station) (map callOf ms)
     → map answered ms ≡ replies counterClock standard (setup standard i l .station) (map callOf ms)
 
 -- "Premise: successive calls lie less than one turn apart": the station's time is then the true time since the first call
 abbrev pub TimeIsTrue : Type 0
 TimeIsTrue =
-    (i : List ℕ) (l : List Address) (o : Outcome) (ms : List Made) (g : Station) → SetUp i l o → Chain (o .station) ms g
+    (i : List ℕ) (l : List Listed) (o : Outcome) (ms : List Made) (g : Station) → SetUp i l o → Chain (o .station) ms g
     → (t : ℕ) (ts : List ℕ) → LessThanTurnApart t ts → map readingOf (map callOf ms) ≡ map (λ u. u % turn) (t ∷ ts)
     → view g .timer .now ≡ min elapsedTop (latest t ts - t)
 
@@ -117,7 +125,7 @@ GivesNewestFirst =
     → (t : ℕ) (d s : Address) (o : List ℕ) → m .call ≡ frame t d s o → OpensEvents elapsedClock standard (view g) t d s o → All (LetsBe s) (map callOf ms)
     → let q = readRequest (standard .elements) o in
     let log = view g .log in
-    GivenInOrder (requestReports elapsedSince log (length log) (take (q .count) (q .elements))) (givenTo s ms) (outstandingDialog Event s (view h))
+    GivenInOrder (requestReports elapsedSince (formOf s (view g .requesters)) log (length log) (take (q .count) (q .elements))) (givenTo s ms) (outstandingDialog Event s (view h))
 
 -- ---- document 02 (e)
 
@@ -129,7 +137,7 @@ framesMade kind s (m ∷ ms) = framesFor kind s (m .call) (answered m .answer) +
 -- what is said of a request of s with the dialog token n that a frame call m opened, of the station that m returned, and of the later calls
 abbrev pub OnceMade : Kind → (Address → ℕ → Station → List Made → Type 0) → Type 0
 OnceMade kind P =
-    (i : List ℕ) (l : List Address) (o : Outcome) (ms : List Made) (g : Station) → SetUp i l o → Chain (o .station) ms g
+    (i : List ℕ) (l : List Listed) (o : Outcome) (ms : List Made) (g : Station) → SetUp i l o → Chain (o .station) ms g
     → (m : Made) (later : List Made) (h : Station) → Allowed g m → Chain (m .outcome .station) later h
     → (t n : ℕ) (d s : Address) (b : List ℕ) → m .call ≡ frame t d s b → Opens elapsedClock standard kind s n (view g) t d b
     → P s n (m .outcome .station) later
@@ -162,8 +170,8 @@ pub record SameEitherWay (x y y′ x′ : Made) : Type 0 where
 pub record OrderLeavesNoTrace : Type 0 where
   pub frames : (g : Station) (x y y′ x′ : Made) → MadeInOrder g x y → MadeInOrder g y′ x′ → (t : ℕ) (d e a b : Address) (o p : List ℕ) → same a b ≡ false
       → x .call ≡ frame t d a o → x′ .call ≡ frame t d a o → y .call ≡ frame t e b p → y′ .call ≡ frame t e b p → SameEitherWay x y y′ x′
-  pub changes : (g : Station) (x y : Made) → MadeInOrder g x y → (t : ℕ) (l : List Address) → x .call ≡ change t l → y .call ≡ change t l
+  pub changes : (g : Station) (x y : Made) → MadeInOrder g x y → (t : ℕ) (l : List Listed) → x .call ≡ change t l → y .call ≡ change t l
       → (view (y .outcome .station) ≡ view (x .outcome .station)) × (answered y ≡ answered x)
-  pub move : (g : Station) (x y alone : Made) → MadeInOrder g x y → Allowed g alone → (t : ℕ) (l m : List Address) → x .call ≡ roam t l → y .call ≡ change t m
+  pub move : (g : Station) (x y alone : Made) → MadeInOrder g x y → Allowed g alone → (t : ℕ) (l m : List Listed) → x .call ≡ roam t l → y .call ≡ change t m
       → alone .call ≡ change t m → (answered y ≡ answered alone)
       × (viewAnswer (alone .outcome .answer) ≡ accepted → view (y .outcome .station) ≡ view (alone .outcome .station))

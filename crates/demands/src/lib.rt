@@ -13,7 +13,7 @@ ghost use Rattle.events.specs.Loggings.{transition, rsna, peerLink};
 ghost use Rattle.model.specs.Model.{clock, logging, frame, report as Model·report, roam as Model·roam, change};
 ghost use Rattle.demands.specs.Chains.{Allowed, SetUp};
 
-pub fn setup(identity: &[u8], list: &[[u8; 6]]) -> Outcome
+pub fn setup(identity: &[u8], list: &[[u8; 7]]) -> Outcome
     ensures { λ r. ⌜ SetUp (now (identity .entry)) (now (list .entry)) r ⌝ }
 {
     Station::setup(identity, list)
@@ -67,13 +67,13 @@ pub fn report(
     g.report(reading, source, kind, buf)
 }
 
-pub fn roam(g: Station, reading: Milliseconds, list: &[[u8; 6]]) -> Outcome
+pub fn roam(g: Station, reading: Milliseconds, list: &[[u8; 7]]) -> Outcome
     ensures { λ r. ⌜ Allowed g (record { call = Model·roam (reading .0) (now (list .entry)); outcome = r; buffer = [] }) ⌝ }
 {
     g.roam(reading, list)
 }
 
-pub fn change_network(g: Station, reading: Milliseconds, list: &[[u8; 6]]) -> Outcome
+pub fn change_network(g: Station, reading: Milliseconds, list: &[[u8; 7]]) -> Outcome
     ensures { λ r. ⌜ Allowed g (record { call = change (reading .0) (now (list .entry)); outcome = r; buffer = [] }) ⌝ }
 {
     g.change_network(reading, list)

@@ -65,7 +65,7 @@ fn outcome_of(o: station::Outcome) -> Outcome
 
 // Names the identity and the requesters.
 #[no_mangle]
-pub extern "C" fn dultxibe_setup(identity: &[u8], list: &[[u8; 6]]) -> Outcome
+pub extern "C" fn dultxibe_setup(identity: &[u8], list: &[[u8; 7]]) -> Outcome
     ensures { λ r. ⌜ viewed r [] ≡ numbered (setup standard (now (identity .entry)) (now (list .entry))) ⌝ }
 {
     outcome_of(Station::setup(identity, list))
@@ -133,7 +133,7 @@ pub extern "C" fn dultxibe_report(
 
 // A move inside the network.
 #[no_mangle]
-pub extern "C" fn dultxibe_roam(g: Station, reading: u32, list: &[[u8; 6]]) -> Outcome
+pub extern "C" fn dultxibe_roam(g: Station, reading: u32, list: &[[u8; 7]]) -> Outcome
     ensures { λ r. ⌜ viewed r [] ≡ numbered (step elapsedClock standard (view g) (roam reading (now (list .entry)))) ⌝ }
 {
     outcome_of(g.roam(Milliseconds(reading), list))
@@ -141,7 +141,7 @@ pub extern "C" fn dultxibe_roam(g: Station, reading: u32, list: &[[u8; 6]]) -> O
 
 // A network change.
 #[no_mangle]
-pub extern "C" fn dultxibe_change_network(g: Station, reading: u32, list: &[[u8; 6]]) -> Outcome
+pub extern "C" fn dultxibe_change_network(g: Station, reading: u32, list: &[[u8; 7]]) -> Outcome
     ensures { λ r. ⌜ viewed r [] ≡ numbered (step elapsedClock standard (view g) (change reading (now (list .entry)))) ⌝ }
 {
     outcome_of(g.change_network(Milliseconds(reading), list))

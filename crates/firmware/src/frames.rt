@@ -23,7 +23,7 @@ ghost use mathlib.Core.List.{map};
 ghost use Rattle.octets.specs.Numbers.{kindOf};
 ghost use Rattle.request_writer.specs.Writer.{writeRequest};
 ghost use Rattle.report_reader.specs.Decoders.{transitionIn, rsnaIn, peerLinkIn};
-ghost use Rattle.report_reader.specs.Reader.{stepAt, readReport};
+ghost use Rattle.report_reader.specs.Reader.{cursorStep, readReport};
 ghost use Rattle.firmware.specs.Numbers.{numberOf, elementFrom, replyWritten, write, numberedWrite, numberedReport, numberedStep};
 
 // The number of a kind.
@@ -71,12 +71,12 @@ pub extern "C" fn dultxibe_write_request(q: Request, buf: &mut [u8]) -> Reply
     ))
 }
 
-// Validates a whole report frame, given its destination.
+// Validates a whole report frame, told its form and given its destination.
 #[no_mangle]
-pub extern "C" fn dultxibe_read_report(destination: &[u8; 6], s: &[u8]) -> Report
-    ensures { λ r. ⌜ r ≡ numberedReport (readReport (now (destination .entry)) (now (s .entry))) ⌝ }
+pub extern "C" fn dultxibe_read_report(form: u8, destination: &[u8; 6], s: &[u8]) -> Report
+    ensures { λ r. ⌜ r ≡ numberedReport (readReport form (now (destination .entry)) (now (s .entry))) ⌝ }
 {
-    let report = read_report(*destination, s);
+    let report = read_report(form, *destination, s);
     let kind = report.kind;
     Report {
         cause: report.refusal.number,
@@ -87,13 +87,13 @@ pub extern "C" fn dultxibe_read_report(destination: &[u8; 6], s: &[u8]) -> Repor
     }
 }
 
-// What stands at a position of a report frame of a kind; the first element stands at 3.
+// What stands at a position of a report frame of a form and a kind; the first element stands at 3.
 #[no_mangle]
-pub extern "C" fn dultxibe_next_element(kind: u8, at: usize, s: &[u8]) -> Step
-    ensures { λ r. ⌜ r ≡ numberedStep (stepAt (now (s .entry)) (kindOf kind) at) ⌝ }
+pub extern "C" fn dultxibe_next_element(form: u8, kind: u8, at: usize, s: &[u8]) -> Step
+    ensures { λ r. ⌜ r ≡ numberedStep (cursorStep form (now (s .entry)) (kindOf kind) at) ⌝ }
 {
     let cursor = Cursor { at };
-    let step = cursor.next(s, kind_of(kind));
+    let step = cursor.next(form, s, kind_of(kind));
     let element = step.element;
     Step {
         cause: step.refusal.number,
@@ -105,24 +105,24 @@ pub extern "C" fn dultxibe_next_element(kind: u8, at: usize, s: &[u8]) -> Step
     }
 }
 
-// The fields of an event, from the octets behind a status; the element's type says which kind it is.
+// The fields of an event in a form, from the octets behind a status; the element's type says which kind it is.
 #[no_mangle]
-pub extern "C" fn dultxibe_read_transition(o: &[u8]) -> TransitionReport
-    ensures { λ r. ⌜ r ≡ transitionIn (now (o .entry)) ⌝ }
+pub extern "C" fn dultxibe_read_transition(form: u8, o: &[u8]) -> TransitionReport
+    ensures { λ r. ⌜ r ≡ transitionIn form (now (o .entry)) ⌝ }
 {
-    transition_in(o)
+    transition_in(form, o)
 }
 
 #[no_mangle]
-pub extern "C" fn dultxibe_read_rsna(o: &[u8]) -> RsnaReport
-    ensures { λ r. ⌜ r ≡ rsnaIn (now (o .entry)) ⌝ }
+pub extern "C" fn dultxibe_read_rsna(form: u8, o: &[u8]) -> RsnaReport
+    ensures { λ r. ⌜ r ≡ rsnaIn form (now (o .entry)) ⌝ }
 {
-    rsna_in(o)
+    rsna_in(form, o)
 }
 
 #[no_mangle]
-pub extern "C" fn dultxibe_read_peer_link(o: &[u8]) -> PeerLinkReport
-    ensures { λ r. ⌜ r ≡ peerLinkIn (now (o .entry)) ⌝ }
+pub extern "C" fn dultxibe_read_peer_link(form: u8, o: &[u8]) -> PeerLinkReport
+    ensures { λ r. ⌜ r ≡ peerLinkIn form (now (o .entry)) ⌝ }
 {
-    peer_link_in(o)
+    peer_link_in(form, o)
 }

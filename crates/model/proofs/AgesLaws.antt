@@ -52,7 +52,7 @@ dropped-call P since g (clock t) h = tt
 dropped-call P since g (logging t e) h = tt
 dropped-call P since g (frame t d s o) h = tt
 dropped-call P since g (report t s kind b) h =
-    rw (find-map (tickRequester since (g .timer .now)) (λ r. refl) s (g .requesters))
+    rw (find-map (tickRequester since (g .timer .now)) (λ r. (refl, refl)) s (g .requesters))
     (dropped-report P (g .log) kind (tickRequester since (g .timer .now)) (λ r. refl) (find s (g .requesters)) h)
 dropped-call P since g (roam t l) h = tt
 dropped-call P since g (change t l) h = tt

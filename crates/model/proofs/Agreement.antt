@@ -7,7 +7,7 @@ use mathlib.Core.Option.{Option, none, some}
 use native.Mathlib.Omega.{arith}
 use Rattle.units.specs.Time.{turn, age, elapsedTop, elapsedSince}
 use Rattle.model.specs.Clocks.{Timer, unset, counterClock, elapsedClock, elapsedAt}
-use Rattle.model.specs.Model.{Capacities, Address, Station, Call}
+use Rattle.model.specs.Model.{Capacities, Listed, Station, Call}
 use Rattle.model.specs.Stations.{setup, withoutLate, timed, readingOf, step}
 use Rattle.model.specs.Runs.{Always}
 use Rattle.model.specs.Ages.{EachAge}
@@ -51,7 +51,7 @@ paired = record {
 Due : Station → Type 0
 Due g = (r : ℕ) → elapsedAt (g .timer .last) (g .timer .now) r < elapsedTop → Past (elapsedAt (g .timer .last) (g .timer .now) r) g
 
-due-first : (i : Option (List ℕ)) (l : List Address) → Due (blank unset i l)
+due-first : (i : Option (List ℕ)) (l : List Listed) → Due (blank unset i l)
 unfolding Due Rising
 due-first i l r h = (new-past _ l, omega arith)
 

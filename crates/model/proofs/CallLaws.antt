@@ -13,9 +13,9 @@ use Rattle.octets.specs.Times.{goodTime}
 use Rattle.octets.specs.Refusals.{badTime, badReportBody}
 use Rattle.events.specs.declared.Entry.{Entry}
 use Rattle.events.specs.Log.{pushed}
-use Rattle.events.specs.Loggings.{LoggedEvent, eventTime, goodRsnElement, entryOf}
+use Rattle.events.specs.Loggings.{LoggedEvent, eventTimes, goodRsnElement, entryOf}
 use Rattle.model.specs.Clocks.{Timer, unset, Clock, advanced}
-use Rattle.model.specs.Model.{Capacities, Address, Requester, Station, Call, clock, logging, frame, report, roam, change, Result}
+use Rattle.model.specs.Model.{Capacities, Address, Listed, Requester, Station, Call, clock, logging, frame, report, roam, change, Result}
 use Rattle.model.specs.Requesters.{newRequester, find}
 use Rattle.model.specs.Stations.{setup, timed, withoutLate, tick, logEntry, logCause, logCall, Served, withRequester, serveFound, serveListed, requestCall, frameCall, reportCall, renameWith, rename, act, readingOf, step}
 
@@ -30,7 +30,7 @@ found-kept a serve b g none = (refl, refl)
 found-kept a serve b g (some r) = (refl, refl)
 
 module _ (most : Capacities) where
-  rename-kept : (log : List Entry) (l : List Address) (g : Station) → Kept g (rename most log l g)
+  rename-kept : (log : List Entry) (l : List Listed) (g : Station) → Kept g (rename most log l g)
   unfolding rename renameWith
   rename-kept log l g = either (Kept g) _ _ _ (λ _. (refl, refl)) (λ _. go (g .identity) refl)
     where
@@ -59,9 +59,9 @@ module _ (k : Clock) (most : Capacities) (g : Station) (c : Call) where
 -- ---- what a call makes of the log
 
 -- an event that logging does not refuse
-pub log-good : (x : LoggedEvent) → logCause x ≡ 0 → (goodTime (eventTime x) ≡ true) × (goodRsnElement x ≡ true)
+pub log-good : (x : LoggedEvent) → logCause x ≡ 0 → (goodTime (eventTimes x .time) ≡ true) × (goodRsnElement x ≡ true)
 unfolding logCause if_then_else_
-log-good x = go (goodTime (eventTime x)) (goodRsnElement x)
+log-good x = go (goodTime (eventTimes x .time)) (goodRsnElement x)
   where
     go : (a b : Bool) → (if not a then badTime else if not b then badReportBody else 0) ≡ 0 → (a ≡ true) × (b ≡ true)
     go true true e = (refl, refl)
@@ -74,7 +74,7 @@ module _ (P : List Entry → Type 0) (empty : P []) where
   found-log a serve b g none p = p
   found-log a serve b g (some r) p = p
 
-  rename-log : (most : Capacities) (log : List Entry) (l : List Address) (g : Station) → P log → P (g .log) → P (rename most log l g .station .log)
+  rename-log : (most : Capacities) (log : List Entry) (l : List Listed) (g : Station) → P log → P (g .log) → P (rename most log l g .station .log)
   unfolding rename renameWith
   rename-log most log l g q p = either (λ (x : Result). P (x .station .log)) _ _ _ (λ _. p) (λ _. go (g .identity))
     where
@@ -97,14 +97,14 @@ module _ (P : List Entry → Type 0) (empty : P []) where
 -- ---- what setup leaves
 
 -- a station with no event and no request
-abbrev pub blank : Timer → Option (List ℕ) → List Address → Station
+abbrev pub blank : Timer → Option (List ℕ) → List Listed → Station
 blank t i l = record { timer = t; identity = i; log = []; requesters = map newRequester l }
 
-pub setup-blank : (most : Capacities) (i : List ℕ) (l : List Address) → (j : Option (List ℕ)) × (m : List Address) × (setup most i l .station ≡ blank unset j m)
+pub setup-blank : (most : Capacities) (i : List ℕ) (l : List Listed) → (j : Option (List ℕ)) × (m : List Listed) × (setup most i l .station ≡ blank unset j m)
 unfolding setup
 setup-blank most i l =
-    let P : Result → Type 0 = λ (x : Result). (j : Option (List ℕ)) × (m : List Address) × (x .station ≡ blank unset j m) in
+    let P : Result → Type 0 = λ (x : Result). (j : Option (List ℕ)) × (m : List Listed) × (x .station ≡ blank unset j m) in
     either P _ _ _ (λ _. (none, [], refl)) (λ _. either P _ _ _ (λ _. (none, [], refl)) (λ _. (some i, l, refl)))
 
-pub setup-unset : (most : Capacities) (i : List ℕ) (l : List Address) → setup most i l .station .timer ≡ unset
+pub setup-unset : (most : Capacities) (i : List ℕ) (l : List Listed) → setup most i l .station .timer ≡ unset
 setup-unset most i l = ap (λ (g : Station). g .timer) (setup-blank most i l .2)

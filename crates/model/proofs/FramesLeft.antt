@@ -22,9 +22,10 @@ use Rattle.requests.specs.declared.Element.{Element}
 use Rattle.requests.specs.declared.Request.{Request}
 use Rattle.requests.proofs.Laws.{HasOne}
 use Rattle.events.specs.declared.Entry.{Entry}
-use Rattle.events.specs.Log.{pastLog, bodyOf}
-use Rattle.events.specs.Loggings.{LoggedEvent, eventType, eventTime, entryWith, entryOf, EventLengths}
-use Rattle.events.proofs.LoggingLaws.{time-nine, body-fits, body-back}
+use Rattle.events.specs.Times.{draft}
+use Rattle.events.specs.Log.{timeOf, pastLog, bodyOf}
+use Rattle.events.specs.Loggings.{LoggedEvent, eventType, entryWith, entryOf, EventLengths}
+use Rattle.events.proofs.LoggingLaws.{time-most, time-length, body-fits, body-back}
 use Rattle.reports.specs.Reports.{eventElement}
 use Rattle.reports.proofs.Laws.{element-length}
 use Rattle.model.specs.declared.Diagnostic.{Diagnostic as DiagnosticElement}
@@ -102,15 +103,17 @@ eventsLeft : EventRequest → ℕ
 eventsLeft r = reportsFrom r (r .elements)
 
 -- a report element fits 257 octets: that of an event that was logged
-pub event-fits : (token stamp reading : ℕ) (x : LoggedEvent) → EventLengths x → logCause x ≡ 0 → length (eventElement token (entryOf stamp reading x)) ≤ 257
+pub event-fits : (form token stamp reading : ℕ) (x : LoggedEvent) → EventLengths x → logCause x ≡ 0 → length (eventElement form token (entryOf stamp reading x)) ≤ 257
 unfolding eventElement entryWith
-event-fits token stamp reading x w good =
+event-fits form token stamp reading x w good =
+    let time : List ℕ = timeOf form (entryOf stamp reading x) in
     let body : List ℕ = bodyOf (entryOf stamp reading x) in
     omega (
       arith,
-      element-length Event token (eventType x) successful (eventTime x ++ body),
-      length-append (eventTime x) body,
-      time-nine x w,
+      element-length Event token (eventType x) successful (time ++ body),
+      length-append time body,
+      time-length form stamp reading x w,
+      time-most form,
       ap length (body-back stamp reading x),
       body-fits reading x w (log-good x good .1),
     )
@@ -119,43 +122,46 @@ bare-fits : (x : Element) (status : ℕ) → length (bare x status) ≤ 257
 bare-fits x status = omega (arith, element-length Event (x .token) (x .ty) status [])
 
 unfoldable pub ShortEntry : Entry → Type 0
-ShortEntry e = (token : ℕ) → length (eventElement token e) ≤ 257
+ShortEntry e = (form token : ℕ) → length (eventElement form token e) ≤ 257
+
+past-time : (form : ℕ) → timeOf form pastLog ≡ []
+past-time form = either (λ (l : List ℕ). l ≡ []) (eqb form draft) _ _ (λ _. refl) (λ _. refl)
 
 short-at : (log : List Entry) → All ShortEntry log → (p : ℕ) → ShortEntry (getD log p pastLog)
 unfolding ShortEntry eventElement
-short-at [] nil p = λ token. omega (arith, element-length Event token 0 successful [])
+short-at [] nil p = λ form token. rw (past-time form) (omega (arith, element-length Event token 0 successful []))
 short-at (e ∷ log) (also h hs) zero = h
 short-at (e ∷ log) (also h hs) (suc p) = short-at log hs p
 
-module _ (since : ℕ → ℕ → ℕ) (log : List Entry) where
+module _ (since : ℕ → ℕ → ℕ) (form : ℕ) (log : List Entry) where
   abbrev GivesEvents : ℕ → ℕ → Option (Piece EventRequest) → Type 0
   GivesEvents = Gives (λ (r : EventRequest). r .dialog) eventsLeft (All ShortEntry log)
 
   front-gives : (r : EventRequest) (x : Element) (xs : List Element) (behind : Option (Piece EventRequest)) → r .elements ≡ x ∷ xs → ltb (x .ty) tables ≡ true
       → GivesEvents (r .dialog) (reportsFrom (without r xs) xs) behind → (o : Option ℕ) → nextEventPlace since log r x ≡ o
-      → GivesEvents (r .dialog) (reportsOf true (r .given) (r .below) + reportsFrom (without r xs) xs) (reportFront log r x xs behind o)
+      → GivesEvents (r .dialog) (reportsOf true (r .given) (r .below) + reportsFrom (without r xs) xs) (reportFront form log r x xs behind o)
   unfolding reportFront reportsFrom reportsOf eventsLeft gave without ShortEntry
   front-gives r x xs behind l t h (some place) e =
       let older = next-event .given since log r x place e .eligible .older in
-      gives-one _ _ _ _ _ _ refl (rw (l, t) (omega (arith, older))) (λ short. short-at log short place (x .token))
+      gives-one _ _ _ _ _ _ refl (rw (l, t) (omega (arith, older))) (λ short. short-at log short place form (x .token))
   front-gives r x xs behind l t h none e =
       either (GivesEvents (r .dialog) (reportsOf true (r .given) (r .below) + reportsFrom (without r xs) xs)) _ _ behind
       (λ z. gives-one _ _ _ _ _ _ refl (omega (arith, eqb-true (r .given) 0 z)) (λ _. bare-fits x successful)) (λ _. gives-more _ _ _ (r .dialog) _ _ behind (omega arith) h)
 
-  from-gives : (r : EventRequest) (xs : List Element) → r .elements ≡ xs → GivesEvents (r .dialog) (reportsFrom r xs) (nextFrom since log r xs)
+  from-gives : (r : EventRequest) (xs : List Element) → r .elements ≡ xs → GivesEvents (r .dialog) (reportsFrom r xs) (nextFrom since form log r xs)
   unfolding nextFrom eventTreatment treatFront reportsFrom reportsOf eventsLeft without Gives if_then_else_
   from-gives r [] l = tt
   from-gives r (x ∷ xs) l = by-type (ltb (x .ty) tables) refl (from-gives (without r xs) xs refl)
     where
       behind : Option (Piece EventRequest)
-      behind = nextFrom since log (without r xs) xs
+      behind = nextFrom since form log (without r xs) xs
 
       by-type : (b : Bool) → ltb (x .ty) tables ≡ b → GivesEvents (r .dialog) (reportsFrom (without r xs) xs) behind
-          → GivesEvents (r .dialog) (reportsOf b (r .given) (r .below) + reportsFrom (without r xs) xs) (treatFront since log r x xs behind (if b then Report else Incapable))
+          → GivesEvents (r .dialog) (reportsOf b (r .given) (r .below) + reportsFrom (without r xs) xs) (treatFront since form log r x xs behind (if b then Report else Incapable))
       by-type true t h = front-gives r x xs behind l t h (nextEventPlace since log r x) refl
       by-type false t h = (refl, omega arith, λ _. bare-fits x incapable)
 
-  next-gives : (r : EventRequest) → GivesEvents (r .dialog) (eventsLeft r) (nextEvent since log r)
+  next-gives : (r : EventRequest) → GivesEvents (r .dialog) (eventsLeft r) (nextEvent since form log r)
   unfolding nextEvent eventsLeft
   next-gives r = from-gives r (r .elements) refl
 
@@ -388,19 +394,19 @@ module _ (since : ℕ → ℕ → ℕ) (i : Option (List ℕ)) (log : List Entry
   module _ (long : reportBuffer ≤ length b) where
     events-given : (r : Requester) (q : EventRequest) → q .dialog ≡ n → FateOf (Short log i) n eventDialog eventsLeft false 1 (some q) (giveEvents since log b r q .requester .events)
     unfolding giveEvents nextFrame unlessDone leftOf
-    events-given r q e = go (nextEvent since log rest) refl
+    events-given r q e = go (nextEvent since (r .form) log rest) refl
       where
         size : ℕ
         size = room b - 3
 
         rest : EventRequest
-        rest = fill (nextEvent since log) size size q .rest
+        rest = fill (nextEvent since (r .form) log) size size q .rest
 
-        go : (o : Option (Piece EventRequest)) → nextEvent since log rest ≡ o → FateOf (Short log i) n eventDialog eventsLeft false 1 (some q) (unlessDone rest o)
+        go : (o : Option (Piece EventRequest)) → nextEvent since (r .form) log rest ≡ o → FateOf (Short log i) n eventDialog eventsLeft false 1 (some q) (unlessDone rest o)
         go none p = over refl refl
         go (some x) p =
-            stays refl (is-token (Short log i) n (rest .dialog) (fill-less _ _ _ (nextEvent since log) (next-gives since log) size size q .0 ∙ e))
-            (λ s. omega (arith, fill-falls _ _ _ (nextEvent since log) (next-gives since log) size q (omega arith) (s .0) x p))
+            stays refl (is-token (Short log i) n (rest .dialog) (fill-less _ _ _ (nextEvent since (r .form) log) (next-gives since (r .form) log) size size q .0 ∙ e))
+            (λ s. omega (arith, fill-falls _ _ _ (nextEvent since (r .form) log) (next-gives since (r .form) log) size q (omega arith) (s .0) x p))
 
     diagnostics-given : (r : Requester) (q : DiagnosticRequest) → q .dialog ≡ n
         → FateOf (Short log i) n diagnosticDialog diagnosticsLeft false 1 (some q) (giveDiagnostics (octetsOf i) b r q .requester .diagnostics)

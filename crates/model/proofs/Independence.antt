@@ -12,7 +12,7 @@ use Rattle.laws.specs.Choice.{if_then_else_}
 use Rattle.laws.proofs.Choice.{either, never}
 use Rattle.units.specs.Time.{age, elapsedTop, elapsedSince}
 use Rattle.model.specs.Clocks.{Timer, unset, Clock, elapsedAt, elapsedClock}
-use Rattle.model.specs.Model.{Capacities, Address, Station, Call, clock, logging, frame, report, roam, change, accepted, Result}
+use Rattle.model.specs.Model.{Capacities, Address, Listed, Station, Call, clock, logging, frame, report, roam, change, accepted, Result}
 use Rattle.identities.specs.Identity.{goodIdentity}
 use Rattle.model.specs.Requesters.{badList}
 use Rattle.octets.specs.Refusals.{badRequesterList, badIdentity}
@@ -76,13 +76,13 @@ module _ (most : Capacities) where
   Known i none = Unit {0}
   Known i (some j) = (j ≡ i) × (goodIdentity i ≡ true)
 
-  setup-known : (i : List ℕ) (l : List Address) → Known i (setup most i l .station .identity)
+  setup-known : (i : List ℕ) (l : List Listed) → Known i (setup most i l .station .identity)
   unfolding setup Known
   setup-known i l =
       let P : Result → Type 0 = λ (x : Result). Known i (x .station .identity) in
       either P _ _ _ (λ _. tt) (λ _. either P _ _ _ (λ _. tt) (λ h. (refl, not-false _ h)))
 
-  module _ (i : List ℕ) (l : List Address) (g : Station) where
+  module _ (i : List ℕ) (l : List Listed) (g : Station) where
     -- where the first is accepted, both are blank
     abbrev Renewed : Result → Result → Type 0
     Renewed x y = isAccepted (x .answer) ≡ true → (x .station ≡ blank (g .timer) (some i) l) × (y .station ≡ blank unset (some i) l)
@@ -122,7 +122,7 @@ module _ (most : Capacities) where
     InStep : Origin → Station → Type 0
     InStep o g = Paired shifted g (fresh o)
 
-    step-start : (l : List Address) → InStep (from l) (setup most i l .station)
+    step-start : (l : List Listed) → InStep (from l) (setup most i l .station)
     unfolding InStep run
     step-start l = let b = setup-blank most i l in rw (b .2) (paired-first shifted unset (b .0) (b .1))
 
@@ -141,7 +141,7 @@ module _ (most : Capacities) where
           ∙ reply-quiet elapsedClock most (setup most i (o .list) .station) (o .later) c
 
       module _ (known : Known i (g .identity)) where
-        step-change : (t : ℕ) (l : List Address) → isAccepted (step elapsedClock most g (change t l) .answer) ≡ true → InStep (from l) (step elapsedClock most g (change t l) .station)
+        step-change : (t : ℕ) (l : List Listed) → isAccepted (step elapsedClock most g (change t l) .answer) ≡ true → InStep (from l) (step elapsedClock most g (change t l) .station)
         unfolding InStep step act readingOf run withoutLate timed
         step-change t l e = let n = rename-new i l (tick elapsedClock t g) known e in rw (n .0, n .1) (paired-first shifted _ (some i) l)
 

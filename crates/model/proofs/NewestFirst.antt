@@ -34,7 +34,7 @@ use Rattle.model.specs.declared.Treatment.{Treatment}
 use Rattle.model.specs.declared.Treatment.the-variants.{Report, Incapable, Cancel, Identity}
 use Rattle.model.specs.Clocks.{Clock, advanced}
 use Rattle.model.specs.Model.{Capacities, Address, EventRequest, DiagnosticRequest, Requester, Station, Call, clock, logging, frame, report, roam, change, Answer, accepted, nothing, ofLength, turnedAway}
-use Rattle.model.specs.Requesters.{find}
+use Rattle.model.specs.Requesters.{find, formIn, formOf}
 use Rattle.model.specs.Dialogs.{replace}
 use Rattle.model.specs.Outstanding.{dialogOf, dialogIn, outstandingDialog}
 use Rattle.model.specs.Fill.{Piece, before, nothingMore, fillWith, fill, nextFrame}
@@ -43,7 +43,7 @@ use Rattle.model.specs.Stations.{refusedFor, tickRequester, Served, serv
 use Rattle.model.specs.Runs.{run, sender, Reply, reply, toSender}
 use Rattle.model.specs.Independence.{quietFor, quiet}
 use Rattle.model.specs.NewestFirst.{latestMatches, orBare, treatedReports, requestReports, behindHeader, eventsIn, eventsOf, eventsGiven, OpensEvents, LetsBe, GivenInOrder, NewestFirst}
-use Rattle.model.proofs.Seen.{Seen, seen, tickSeen, servedSeen, actSeen, stepSeen, seen-step, quiet-step, servedReply, seenReply, stepReply, seen-reply}
+use Rattle.model.proofs.Seen.{Seen, seen, tickSeen, servedSeen, actSeen, stepSeen, seen-step, quiet-step, servedReply, seenReply, stepReply, seen-reply, kind-keeps, give-keeps}
 
 -- ---- the places that one element gives
 
@@ -115,20 +115,20 @@ same-next : {R : Type 0} (next : R → Option (Piece R)) (r r′ : R) (os : List
 same-next next r r′ _ e (done f) = done (e ∙ f)
 same-next next r r′ _ e (more f g) = more (e ∙ f) g
 
-module _ (since : ℕ → ℕ → ℕ) (log : List Entry) where
+module _ (since : ℕ → ℕ → ℕ) (form : ℕ) (log : List Entry) where
   abbrev next : EventRequest → Option (Piece EventRequest)
-  next = nextEvent since log
+  next = nextEvent since form log
 
   module _ (x : Element) (xs : List Element) where
-    front-is : (r : EventRequest) → r .elements ≡ x ∷ xs → next r ≡ treatFront since log r x xs (next (without r xs)) (eventTreatment (x .ty))
+    front-is : (r : EventRequest) → r .elements ≡ x ∷ xs → next r ≡ treatFront since form log r x xs (next (without r xs)) (eventTreatment (x .ty))
     unfolding nextEvent nextFrom without
-    front-is r h = ap (nextFrom since log r) h
+    front-is r h = ap (nextFrom since form log r) h
 
     abbrev piece : ℕ → List ℕ
-    piece p = eventElement (x .token) (getD log p pastLog)
+    piece p = eventElement form (x .token) (getD log p pastLog)
 
     module _ (reports : eventTreatment (x .ty) ≡ Report) (os : List (List ℕ)) where
-      report-is : (r : EventRequest) → r .elements ≡ x ∷ xs → (o : Option ℕ) → nextEventPlace since log r x ≡ o → next r ≡ reportFront log r x xs (next (without r xs)) o
+      report-is : (r : EventRequest) → r .elements ≡ x ∷ xs → (o : Option ℕ) → nextEventPlace since log r x ≡ o → next r ≡ reportFront form log r x xs (next (without r xs)) o
       unfolding treatFront
       report-is r h o e = front-is r h ∙ rw (reports, e)
 
@@ -158,16 +158,16 @@ module _ (since : ℕ → ℕ → ℕ) (log : List Entry) where
 
     -- the front element, and those behind it
     element-gives : (r : EventRequest) → r .elements ≡ x ∷ xs → Fresh r → (os : List (List ℕ)) → GivesAll next (without r xs) os
-        → (t : Treatment) → eventTreatment (x .ty) ≡ t → GivesAll next r (treatedReports since log (r .mark) x t ++ os)
+        → (t : Treatment) → eventTreatment (x .ty) ≡ t → GivesAll next r (treatedReports since form log (r .mark) x t ++ os)
     unfolding treatedReports treatFront
     element-gives r h f os g Report e = begins e os (latestMatches since log (r .mark) x) r h (f .none-given) (fresh-gives since log x r f) g
     element-gives r h f os g Incapable e = more {p = record { octets = bare x incapable; rest = without r xs }} (front-is r h ∙ rw e) g
     element-gives r h f os g Cancel e = same-next next r (without r xs) os (front-is r h ∙ rw e) g
     element-gives r h f os g Identity e = same-next next r (without r xs) os (front-is r h ∙ rw e) g
 
-  request-gives : (xs : List Element) (r : EventRequest) → r .elements ≡ xs → Fresh r → GivesAll next r (requestReports since log (r .mark) xs)
+  request-gives : (xs : List Element) (r : EventRequest) → r .elements ≡ xs → Fresh r → GivesAll next r (requestReports since form log (r .mark) xs)
   unfolding requestReports nextEvent nextFrom without
-  request-gives [] r h f = done (ap (nextFrom since log r) h)
+  request-gives [] r h f = done (ap (nextFrom since form log r) h)
   request-gives (x ∷ xs) r h f =
       element-gives x xs r h f _ (request-gives xs (without r xs) refl (record { none-given = refl; opens = refl })) (eventTreatment (x .ty)) refl
 
@@ -212,8 +212,12 @@ unfolding flatten
 flatten-append [] os′ = refl
 flatten-append (o ∷ os) os′ = ap (λ (l : List ℕ). o ++ l) (flatten-append os os′) ∙ sym (append-assoc o (flatten os) (flatten os′))
 
-module _ (since : ℕ → ℕ → ℕ) (log : List Entry) where
-  leaves : (r : EventRequest) (os : List (List ℕ)) → GivesAll (nextEvent since log) r os → Left (nextEvent since log) (unlessDone r (nextEvent since log r)) os
+framed : (o b : List ℕ) (c a d : ℕ) → behindHeader (ofLength (length (c ∷ a ∷ d ∷ o))) (onto (c ∷ a ∷ d ∷ o) b) ≡ o
+unfolding behindHeader
+framed o b c a d = ap (drop 3) (take-append-seam (c ∷ a ∷ d ∷ o) (drop (length (c ∷ a ∷ d ∷ o)) b))
+
+module _ (since : ℕ → ℕ → ℕ) (form : ℕ) (log : List Entry) where
+  leaves : (r : EventRequest) (os : List (List ℕ)) → GivesAll (nextEvent since form log) r os → Left (nextEvent since form log) (unlessDone r (nextEvent since form log r)) os
   unfolding unlessDone
   leaves r _ (done e) = rw e ended
   leaves r _ (more {p = p} {os = os} e g) = rw e (standing (more {p = p} e g))
@@ -222,44 +226,49 @@ module _ (since : ℕ → ℕ → ℕ) (log : List Entry) where
   record Gave (os : List (List ℕ)) (x : Served) : Type 0 where
     pub count : ℕ
     pub octets : behindHeader (x .answer) (x .buffer) ≡ flatten (take count os)
-    pub left : Left (nextEvent since log) (x .requester .events) (drop count os)
+    pub left : Left (nextEvent since form log) (x .requester .events) (drop count os)
 
-  framed : (o b : List ℕ) (c a d : ℕ) → behindHeader (ofLength (length (c ∷ a ∷ d ∷ o))) (onto (c ∷ a ∷ d ∷ o) b) ≡ o
-  unfolding behindHeader
-  framed o b c a d = ap (drop 3) (take-append-seam (c ∷ a ∷ d ∷ o) (drop (length (c ∷ a ∷ d ∷ o)) b))
-
-  frame-gave : (b : List ℕ) (r : Requester) (q : EventRequest) (os : List (List ℕ)) → GivesAll (nextEvent since log) q os → Gave os (giveEvents since log b r q)
-  unfolding giveEvents nextFrame
-  frame-gave b r q os g =
-      let p = fill (nextEvent since log) (room b - 3) (room b - 3) q in
-      let f = fill-gives (nextEvent since log) (room b - 3) (room b - 3) q os g in
-      record {
-        count = f .count;
-        octets = framed (p .octets) b category (reportAction Event) (q .dialog) ∙ f .octets;
-        left = leaves (p .rest) (drop (f .count) os) (f .rest);
-      }
-
-  nothing-gave : (b : List ℕ) (r : Requester) (a : Answer) (os : List (List ℕ)) → behindHeader a b ≡ [] → Left (nextEvent since log) (r .events) os → Gave os (served r a b)
+  nothing-gave : (b : List ℕ) (r : Requester) (a : Answer) (os : List (List ℕ)) → behindHeader a b ≡ [] → Left (nextEvent since form log) (r .events) os → Gave os (served r a b)
   unfolding flatten
   nothing-gave b r a os e l = record { count = 0; octets = e; left = l }
 
-  report-gave : (i : Option (List ℕ)) (b : List ℕ) (r : Requester) (os : List (List ℕ)) → Left (nextEvent since log) (r .events) os → Gave os (giveReport since i log Event b r)
+module _ (since : ℕ → ℕ → ℕ) (log : List Entry) where
+  frame-gave : (b : List ℕ) (r : Requester) (q : EventRequest) (os : List (List ℕ)) → GivesAll (nextEvent since (r .form) log) q os → Gave since (r .form) log os (giveEvents since log b r q)
+  unfolding giveEvents nextFrame
+  frame-gave b r q os g =
+      let next = nextEvent since (r .form) log in
+      let p = fill next (room b - 3) (room b - 3) q in
+      let f = fill-gives next (room b - 3) (room b - 3) q os g in
+      record {
+        count = f .count;
+        octets = framed (p .octets) b category (reportAction Event) (q .dialog) ∙ f .octets;
+        left = leaves since (r .form) log (p .rest) (drop (f .count) os) (f .rest);
+      }
+
+  report-gave : (i : Option (List ℕ)) (b : List ℕ) (r : Requester) (os : List (List ℕ)) → Left (nextEvent since (r .form) log) (r .events) os
+      → Gave since (r .form) log os (giveReport since i log Event b r)
   unfolding giveReport giveKind ifOutstanding behindHeader
-  report-gave i b r os l = either (Gave os) _ _ _ (λ _. nothing-gave b r _ os refl l) (λ _. go (r .events) refl l)
+  report-gave i b r os l = either (Gave since (r .form) log os) _ _ _ (λ _. nothing-gave since (r .form) log b r _ os refl l) (λ _. go (r .events) refl l)
     where
-      go : (o : Option EventRequest) → r .events ≡ o → Left (nextEvent since log) o os → Gave os (ifOutstanding (giveEvents since log b r) r b o)
-      go none e k = nothing-gave b r nothing os refl (rw e k)
+      go : (o : Option EventRequest) → r .events ≡ o → Left (nextEvent since (r .form) log) o os → Gave since (r .form) log os (ifOutstanding (giveEvents since log b r) r b o)
+      go none e k = nothing-gave since (r .form) log b r nothing os refl (rw e k)
       go (some q) e (standing g) = frame-gave b r q os g
+
+  -- said of the form that it follows, and of a name of that form
+  in-form : (o : Option EventRequest) (os : List (List ℕ)) (x : Served) (follows form : ℕ) → follows ≡ form
+      → (Left (nextEvent since follows log) o os → Gave since follows log os x) → Left (nextEvent since form log) o os → Gave since form log os x
+  in-form o os x follows form e give l = rw e at (give (rw e l))
 
 -- ---- a call, by what the requester sees
 
-module _ (k : Clock) (most : Capacities) (s : Address) (log : List Entry) where
+module _ (k : Clock) (most : Capacities) (s : Address) (form : ℕ) (log : List Entry) where
   -- the log stays, and the requester's request has these pieces still to give
   record Standing (os : List (List ℕ)) (v : Seen) : Type 0 where
     pub requester : Requester
     pub found : v .slot ≡ some requester
     pub same-log : v .log ≡ log
-    pub left : Left (nextEvent (k .since) log) (requester .events) os
+    pub same-form : requester .form ≡ form
+    pub left : Left (nextEvent (k .since) form log) (requester .events) os
 
   -- a call gave so many of them, and the others are left
   record GaveSome (os : List (List ℕ)) (g : Station) (c : Call) : Type 0 where
@@ -269,7 +278,7 @@ module _ (k : Clock) (most : Capacities) (s : Address) (log : List Entry) where
 
   tick-stands : (os : List (List ℕ)) (reading : ℕ) (v : Seen) → Standing os v → Standing os (tickSeen k reading v)
   unfolding tickSeen tickRequester
-  tick-stands os reading v x = record { requester = tickRequester (k .since) (advanced k (v .timer) reading .now) (x .requester); found = rw (x .found); same-log = x .same-log; left = x .left }
+  tick-stands os reading v x = record { requester = tickRequester (k .since) (advanced k (v .timer) reading .now) (x .requester); found = rw (x .found); same-log = x .same-log; same-form = x .same-form; left = x .left }
 
   -- a clock reading, and what is no more to it
   gave-none : (os : List (List ℕ)) (g : Station) (c : Call) → eventsOf s c (reply k most g c) ≡ [] → stepSeen k most s c (seen s g) ≡ tickSeen k (readingOf c) (seen s g) → Standing os (seen s g) → GaveSome os g c
@@ -301,27 +310,27 @@ module _ (k : Clock) (most : Capacities) (s : Address) (log : List Entry) where
       go none = refl
       go (some q) = refl
 
-  seen-gave : (l : List Entry) → l ≡ log → (i : Option (List ℕ)) (b : List ℕ) (r : Requester) (os : List (List ℕ)) → Left (nextEvent (k .since) log) (r .events) os
-      → Gave (k .since) log os (giveReport (k .since) i l Event b r)
-  seen-gave l e i b r os x = rw e (report-gave (k .since) log i b r os x)
+  seen-gave : (l : List Entry) → l ≡ log → (i : Option (List ℕ)) (b : List ℕ) (r : Requester) → r .form ≡ form → (os : List (List ℕ)) → Left (nextEvent (k .since) form log) (r .events) os
+      → Gave (k .since) form log os (giveReport (k .since) i l Event b r)
+  seen-gave l e i b r h os x = rw e (in-form (k .since) log (r .events) os _ (r .form) form h (report-gave (k .since) log i b r os) x)
 
   own-gave : (os : List (List ℕ)) (g : Station) (t : ℕ) (kind : Kind) (b : List ℕ) → Standing os (seen s g) → GaveSome os g (report t s kind b)
   unfolding eventsOf eventsIn flatten if_then_else_
   own-gave os g t Event b x =
       let y = tick-stands os t (seen s g) x in
       let w = tickSeen k t (seen s g) in
-      let f = seen-gave (w .log) (y .same-log) (w .identity) b (y .requester) os (y .left) in
+      let f = seen-gave (w .log) (y .same-log) (w .identity) b (y .requester) (y .same-form) os (y .left) in
       record {
         count = f .count;
         octets = rw (same-refl s, own-reply g t Event b (y .requester) (y .found)) (f .octets);
-        after = rw (own-seen g t Event b (y .requester) (y .found)) (record { requester = _; found = refl; same-log = y .same-log; left = f .left });
+        after = rw (own-seen g t Event b (y .requester) (y .found)) (record { requester = _; found = refl; same-log = y .same-log; same-form = give-keeps (k .since) _ _ Event b (y .requester) .1 ∙ y .same-form; left = f .left });
       }
   own-gave os g t Diagnostic b x =
       let y = tick-stands os t (seen s g) x in
       record {
         count = 0;
         octets = rw (same-refl s);
-        after = rw (own-seen g t Diagnostic b (y .requester) (y .found)) (record { requester = _; found = refl; same-log = y .same-log; left = rw (events-kept _ _ b (y .requester)) (y .left) });
+        after = rw (own-seen g t Diagnostic b (y .requester) (y .found)) (record { requester = _; found = refl; same-log = y .same-log; same-form = give-keeps (k .since) _ _ Diagnostic b (y .requester) .1 ∙ y .same-form; left = rw (events-kept _ _ b (y .requester)) (y .left) });
       }
 
   call-gave : (os : List (List ℕ)) (g : Station) (c : Call) → LetsBe s c → Standing os (seen s g) → GaveSome os g c
@@ -339,7 +348,7 @@ module _ (k : Clock) (most : Capacities) (s : Address) (log : List Entry) where
 
   -- ---- calls one after the other
 
-  none-left : (os : List (List ℕ)) (o : Option EventRequest) → Left (nextEvent (k .since) log) o os → Option·map (λ q. q .dialog) o ≡ none → os ≡ []
+  none-left : (os : List (List ℕ)) (o : Option EventRequest) → Left (nextEvent (k .since) form log) o os → Option·map (λ q. q .dialog) o ≡ none → os ≡ []
   none-left os none ended e = refl
   none-left os (some q) (standing g) e = never cc
 
@@ -377,9 +386,9 @@ module _ (k : Clock) (most : Capacities) (g : Station) (t : ℕ) (d s : Address)
   frame-seen = seen-step k most s (frame t d s o) g
 
   -- the station after it holds the new request
-  module _ (new : outstandingDialog Event s g ≡ some (asked .dialog) → ⊥) (asks : asked .kind ≡ Event) where
+  module _ (new : outstandingDialog Event s g ≡ some (asked .dialog) → ⊥) (asks : asked .kind ≡ Event) (form : ℕ) (follows : formOf s (g .requesters) ≡ form) where
     abbrev Opened : Seen → Type 0
-    Opened = Standing k most s (g .log) (requestReports (k .since) (g .log) (length (g .log)) (take (asked .count) (asked .elements)))
+    Opened = Standing k most s form (g .log) (requestReports (k .since) form (g .log) (length (g .log)) (take (asked .count) (asked .elements)))
 
     replaced : (e : Option EventRequest) → (Option·map (λ q. q .dialog) e ≡ some (asked .dialog) → ⊥) → takeEvents (length (g .log)) asked e ≡ some (openEvents (length (g .log)) asked)
     unfolding takeEvents replace if_then_else_
@@ -395,14 +404,15 @@ module _ (k : Clock) (most : Capacities) (g : Station) (t : ℕ) (d s : Address)
     kind-events now r Event e = refl
     kind-events now r Diagnostic e = never cc
 
-    open-slot : (r : Requester) → find s (g .requesters) ≡ some r → (x : Requester) → x .events ≡ takeEvents (length (g .log)) asked (r .events)
+    open-slot : (r : Requester) → find s (g .requesters) ≡ some r → (x : Requester) → x .form ≡ r .form → x .events ≡ takeEvents (length (g .log)) asked (r .events)
         → Opened (record { timer = ticked .timer; identity = ticked .identity; log = ticked .log; slot = some x })
-    unfolding tickSeen seen dialogIn dialogOf openEvents
-    open-slot r f x e = record {
+    unfolding tickSeen seen dialogIn dialogOf openEvents formIn
+    open-slot r f x i e = record {
       requester = x;
       found = refl;
       same-log = refl;
-      left = rw (e, replaced (r .events) (λ h. new (rw f h))) (standing (request-gives (k .since) (g .log) _ (openEvents (length (g .log)) asked) refl (record { none-given = refl; opens = refl })));
+      same-form = i ∙ ap formIn (sym f) ∙ follows;
+      left = rw (e, replaced (r .events) (λ h. new (rw f h))) (standing (request-gives (k .since) form (g .log) _ (openEvents (length (g .log)) asked) refl (record { none-given = refl; opens = refl })));
     }
 
     opened : step k most g (frame t d s o) .answer ≡ accepted → Opened (seen s (step k most g (frame t d s o) .station))
@@ -418,8 +428,8 @@ module _ (k : Clock) (most : Capacities) (g : Station) (t : ℕ) (d s : Address)
         go true slot f y i h = never cc
         go false none f y i h = let z : refusedFor unknownRequester ≡ accepted = rw f at h in never cc
         go false (some r) f true i h = let z : turnedAway (asked .refusal) ≡ accepted = rw (f, i) at h in never cc
-        go false (some r) f false i h = rw (same-refl s, f, i) (open-slot r f _ (kind-events (ticked .timer .now) (tickRequester (k .since) (ticked .timer .now) r) (asked .kind) asks))
+        go false (some r) f false i h = rw (same-refl s, f, i) (open-slot r f _ (kind-keeps (ticked .timer .now) (g .log) asked (tickRequester (k .since) (ticked .timer .now) r) (asked .kind) .1) (kind-events (ticked .timer .now) (tickRequester (k .since) (ticked .timer .now) r) (asked .kind) asks))
 
 pub newest-first : NewestFirst
 newest-first k most g t d s o later opens lets =
-    calls-gave k most s (g .log) later (step k most g (frame t d s o) .station) _ lets (opened k most g t d s o (opens .new) (opens .asks) (opens .taken))
+    calls-gave k most s (formOf s (g .requesters)) (g .log) later (step k most g (frame t d s o) .station) _ lets (opened k most g t d s o (opens .new) (opens .asks) _ refl (opens .taken))

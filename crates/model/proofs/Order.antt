@@ -23,7 +23,7 @@ use Rattle.requests.specs.Requests.{readRequest}
 use Rattle.events.specs.declared.Entry.{Entry}
 use Rattle.model.specs.declared.Diagnostic.{Diagnostic as DiagnosticElement}
 use Rattle.model.specs.Clocks.{Timer, elapsedAt, elapsedClock, advanced}
-use Rattle.model.specs.Model.{Capacities, Address, DiagnosticRequest, Requester, Station, frame, accepted, Result}
+use Rattle.model.specs.Model.{Capacities, Address, Listed, DiagnosticRequest, Requester, Station, frame, accepted, Result}
 use Rattle.model.specs.Dialogs.{replace}
 use Rattle.model.specs.Requesters.{badList, newRequester, find, put}
 use Rattle.model.specs.Diagnostics.{isLate, onTime, unlessOver, dropLate, diagnosticsOf, takeDiagnostics}
@@ -31,7 +31,7 @@ use Rattle.model.specs.Stations.{result, refusedFor, tickRequester, with
 use Rattle.model.specs.Runs.{run, reply, sender}
 use Rattle.model.specs.Independence.{quietFor}
 use Rattle.model.specs.Order.{FramesUnordered, ChangesEqualOne, MoveLeavesNoTrace}
-use Rattle.model.proofs.Seen.{Keeps, take-keeps, replyOf}
+use Rattle.model.proofs.Seen.{SameName, Keeps, take-keeps, replyOf}
 use Rattle.model.proofs.Independence.{independent-of-others}
 
 -- ---- a second late drop finds nothing
@@ -97,14 +97,14 @@ module _ (now : ℕ) where
   unfolding tickRequester
   calm-dropped [] nil = refl
   calm-dropped (r ∷ rs) (also h hs) =
-      ap₂ (λ (o : Option DiagnosticRequest) (l : List Requester). record { address = r .address; events = r .events; diagnostics = o } ∷ l) h (calm-dropped rs hs)
+      ap₂ (λ (o : Option DiagnosticRequest) (l : List Requester). record { address = r .address; form = r .form; events = r .events; diagnostics = o } ∷ l) h (calm-dropped rs hs)
 
   dropped-calm : (rs : List Requester) → All Calm (map (tickRequester elapsedSince now) rs)
   unfolding tickRequester
   dropped-calm [] = nil
   dropped-calm (r ∷ rs) = also (drop-settled (r .diagnostics)) (dropped-calm rs)
 
-  new-calm : (l : List Address) → All Calm (map newRequester l)
+  new-calm : (l : List Listed) → All Calm (map newRequester l)
   unfolding newRequester dropLate
   new-calm [] = nil
   new-calm (a ∷ l) = also refl (new-calm l)
@@ -166,8 +166,8 @@ update-swap a b n f h kf kh (r ∷ rs) = go (same a (r .address)) refl (same b (
     go : (s : Bool) → same a (r .address) ≡ s → (t : Bool) → same b (r .address) ≡ t → update b h (update a f rs) ≡ update a f (update b h rs)
         → update b h (if s then f r ∷ rs else r ∷ update a f rs) ≡ update a f (if t then h r ∷ rs else r ∷ update b h rs)
     go true p true q e = never (sym n ∙ ap (same a) (same-true b (r .address) q) ∙ p)
-    go true p false q e = rw (kf r, p, q)
-    go false p true q e = rw (kh r, p, q)
+    go true p false q e = rw (kf r .0, p, q)
+    go false p true q e = rw (kh r .0, p, q)
     go false p false q e = rw (p, q, e)
 
 abbrev withRequesters : Station → List Requester → Station
@@ -216,7 +216,7 @@ module _ (most : Capacities) where
 
   taken-keeps : (u : Station) (d : Address) (o : List ℕ) → Keeps (taken u d o)
   unfolding taken
-  taken-keeps u d o r = either (λ (x : Requester). x .address ≡ r .address) _ _ _ (λ _. refl) (λ _. take-keeps (u .timer .now) (u .log) _ r)
+  taken-keeps u d o r = either (λ (x : Requester). SameName x r) _ _ _ (λ _. (refl, refl)) (λ _. take-keeps (u .timer .now) (u .log) _ r)
 
   frame-still : (t : ℕ) (d a : Address) (o : List ℕ) (u : Station) → Still t u → Still t (frameCall most d a o u .station)
   unfolding taken
@@ -258,7 +258,7 @@ frames-unordered most g t d e a b o p n = record {
 -- ---- moves and network changes
 
 module _ (most : Capacities) where
-  rename-still : (t : ℕ) (log : List Entry) (l : List Address) (u : Station) → Still t u → Still t (rename most log l u .station)
+  rename-still : (t : ℕ) (log : List Entry) (l : List Listed) (u : Station) → Still t u → Still t (rename most log l u .station)
   unfolding rename renameWith
   rename-still t log l u s = either (λ (x : Result). Still t (x .station)) _ _ _ (λ _. s) (λ _. go (u .identity))
     where
@@ -274,7 +274,7 @@ module _ (most : Capacities) where
   same-again : (x y : Result) → x ≡ y → Again x y
   same-again x y e = record { same-reply = ap replyOf e; same-station = λ _. ap (λ (z : Result). z .station) e }
 
-  rename-again : (log : List Entry) (l m : List Address) (u : Station) → Again (rename most [] m (rename most log l u .station)) (rename most [] m u)
+  rename-again : (log : List Entry) (l m : List Listed) (u : Station) → Again (rename most [] m (rename most log l u .station)) (rename most [] m u)
   unfolding rename renameWith if_then_else_
   rename-again log l m u = go (badList (most .requesters) m) (badList (most .requesters) l) (u .identity) refl
     where
@@ -287,7 +287,7 @@ module _ (most : Capacities) where
       go false false (some i) e = same-again _ _ refl
 
   -- the same change twice; a refused one leaves the station as it is
-  rename-twice : (l : List Address) (u : Station) → rename most [] l (rename most [] l u .station) ≡ rename most [] l u
+  rename-twice : (l : List Listed) (u : Station) → rename most [] l (rename most [] l u .station) ≡ rename most [] l u
   unfolding rename renameWith if_then_else_
   rename-twice l u = go (badList (most .requesters) l) (u .identity) refl
     where

@@ -5,7 +5,7 @@ use mathlib.Core.Path.{_≡_, _∙_, ap}
 use mathlib.Core.List.{List}
 use mathlib.Core.Option.{Option, some}
 use Rattle.model.specs.Clocks.{Timer, unset, Clock}
-use Rattle.model.specs.Model.{Capacities, Address, Station, Call}
+use Rattle.model.specs.Model.{Capacities, Listed, Station, Call}
 use Rattle.model.specs.Stations.{timed, withoutLate, act, readingOf, step}
 use Rattle.model.specs.Runs.{reply}
 use Rattle.model.specs.Ages.{EachAge}
@@ -32,7 +32,7 @@ module _ {k k′ : Clock} (p : Pairing k k′) where
       (r : ℕ) → p .Good r (k .time (g .timer) r) (k′ .time (h .timer) r)
       → (i : p .Index) × (timed k r g ≡ retimed (p .mapped i) (timed k′ r h)) × p .Linked i r (k′ .time (h .timer) r)
 
-  pub paired-first : (t : Timer) (i : Option (List ℕ)) (l : List Address) → Paired (blank t i l) (blank unset i l)
+  pub paired-first : (t : Timer) (i : Option (List ℕ)) (l : List Listed) → Paired (blank t i l) (blank unset i l)
   unfolding Paired timed retimed
   paired-first t i l r good =
       let n = p .first t r good in

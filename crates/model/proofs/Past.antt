@@ -17,7 +17,7 @@ use Rattle.events.specs.declared.Entry.{Entry}
 use Rattle.events.specs.Log.{pushed, pastLog, stampOf}
 use Rattle.events.specs.Loggings.{entryWith, entryOf}
 use Rattle.model.specs.declared.Diagnostic.{Diagnostic as DiagnosticElement}
-use Rattle.model.specs.Model.{Capacities, Address, EventRequest, DiagnosticRequest, Requester, Station, Call, clock, logging, frame, report, roam, change, Result}
+use Rattle.model.specs.Model.{Capacities, Address, Listed, EventRequest, DiagnosticRequest, Requester, Station, Call, clock, logging, frame, report, roam, change, Result}
 use Rattle.model.specs.Dialogs.{replace}
 use Rattle.model.specs.Requesters.{newRequester, find, put}
 use Rattle.model.specs.Diagnostics.{unlessOver, dropLate, diagnosticsOf, takeDiagnostics}
@@ -114,7 +114,7 @@ module _ (now : ℕ) where
   map-past f e [] h = tt
   map-past f e (r ∷ rs) h = (e r (h .0), map-past f e rs (h .1))
 
-  pub new-past : (l : List Address) → All (map newRequester l)
+  pub new-past : (l : List Listed) → All (map newRequester l)
   unfolding OfDrop OfRequest newRequester
   new-past [] = tt
   new-past (a ∷ l) = (tt, new-past l)
@@ -173,7 +173,7 @@ module _ (now : ℕ) where
       go Event = events (r .events)
       go Diagnostic = diagnostics (r .diagnostics) h
 
-  rename-past : (most : Capacities) (log : List Entry) (l : List Address) (g : Station) → Rising 0 log now → Past g → Past (rename most log l g .station)
+  rename-past : (most : Capacities) (log : List Entry) (l : List Listed) (g : Station) → Rising 0 log now → Past g → Past (rename most log l g .station)
   unfolding rename renameWith
   rename-past most log l g e h = either (λ (x : Result). Past (x .station)) _ _ _ (λ _. h) (λ _. go (g .identity))
     where

@@ -8,7 +8,7 @@ use native.Mathlib.Omega.{arith}
 use lib.ListN.{length}
 use Rattle.units.specs.Time.{turn, age, elapsedTop}
 use Rattle.model.specs.Clocks.{Timer, unset, advanced, elapsedClock, elapsedAt}
-use Rattle.model.specs.Model.{Capacities, Address, Station, Call}
+use Rattle.model.specs.Model.{Capacities, Listed, Station, Call}
 use Rattle.model.specs.Stations.{setup, timed, readingOf, step}
 use Rattle.model.specs.Runs.{run, Always}
 use Rattle.model.specs.Premise.{LessThanTurnApart, latest, ElapsedIsTrue}
@@ -72,5 +72,5 @@ below-from most g (c ∷ cs) h =
     (omega arith, below-from most (step elapsedClock most g c .station) cs (rw (step-timer elapsedClock most g c) (omega arith)))
 
 -- no list of fewer calls than a turn has milliseconds comes to the top
-pub below-top : (most : Capacities) (i : List ℕ) (l : List Address) (cs : List Call) → length cs < turn → Always BelowTop elapsedClock most (setup most i l .station) cs
+pub below-top : (most : Capacities) (i : List ℕ) (l : List Listed) (cs : List Call) → length cs < turn → Always BelowTop elapsedClock most (setup most i l .station) cs
 below-top most i l cs h = below-from most (setup most i l .station) cs (rw (setup-unset most i l) (omega arith))

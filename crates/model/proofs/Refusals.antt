@@ -22,7 +22,7 @@ use Rattle.requests.specs.Requests.{requestCauses, readRequest}
 use Rattle.requests.proofs.Causes.{request-listed}
 use Rattle.events.specs.declared.Entry.{Entry}
 use Rattle.events.specs.Loggings.{LoggedEvent}
-use Rattle.model.specs.Model.{Capacities, Address, Requester, Station, Call, clock, logging, frame, report, roam, change, Answer, accepted, nothing, ofLength, turnedAway, Result}
+use Rattle.model.specs.Model.{Capacities, Address, Listed, Requester, Station, Call, clock, logging, frame, report, roam, change, Answer, accepted, nothing, ofLength, turnedAway, Result}
 use Rattle.model.specs.Requesters.{find, put}
 use Rattle.model.specs.Stations.{refusedFor, nobody, setup, tick, logCause, logCall, Served, withRequester, serveFound, serveListed, takeRequest, requestCall, frameCall, giveEvents, giveDiagnostics, ifOutstanding, octetsOf, giveKind, giveReport, reportCall, renameWith, rename, act, readingOf, step}
 use Rattle.model.specs.Refusals.{lentBuffer, causesOf, setupCauses, RefusedBy, LeftAlone, RefusedCall, LeftUnnamed, RefusedSetup}
@@ -119,7 +119,7 @@ module _ (since : ℕ → ℕ → ℕ) (b : List ℕ) (r : Requester) where
 abbrev renameCauses : List ℕ
 renameCauses = badRequesterList ∷ badIdentity ∷ []
 
-module _ (most : Capacities) (log : List Entry) (l : List Address) (g : Station) where
+module _ (most : Capacities) (log : List Entry) (l : List Listed) (g : Station) where
   renamed-kept : (o : Option (List ℕ)) → Kept renameCauses g [] (renameWith log l g o)
   unfolding renameWith
   renamed-kept none = by-cause renameCauses g [] badIdentity (later first)
@@ -167,7 +167,7 @@ refused-call k most g c r h =
 
 -- ---- setup
 
-setup-kept : (most : Capacities) (i : List ℕ) (l : List Address) → Kept setupCauses nobody [] (setup most i l)
+setup-kept : (most : Capacities) (i : List ℕ) (l : List Listed) → Kept setupCauses nobody [] (setup most i l)
 unfolding setup
 setup-kept most i l =
     either (Kept setupCauses nobody []) _ _ _ (λ _. by-cause setupCauses nobody [] badRequesterList first)

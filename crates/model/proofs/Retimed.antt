@@ -33,7 +33,7 @@ use Rattle.model.specs.declared.Diagnostic.{Diagnostic as DiagnosticElem
 use Rattle.model.specs.declared.Treatment.{Treatment}
 use Rattle.model.specs.declared.Treatment.the-variants.{Report, Incapable, Cancel, Identity}
 use Rattle.model.specs.Clocks.{Timer}
-use Rattle.model.specs.Model.{Capacities, Address, EventRequest, DiagnosticRequest, Requester, Station, Call, clock, logging, frame, report, roam, change, Result}
+use Rattle.model.specs.Model.{Capacities, Address, Listed, EventRequest, DiagnosticRequest, Requester, Station, Call, clock, logging, frame, report, roam, change, Result}
 use Rattle.model.specs.Dialogs.{replace}
 use Rattle.model.specs.Requesters.{newRequester, find, put, badList}
 use Rattle.model.specs.Fill.{Piece, fillWith, fill, nextFrame}
@@ -81,13 +81,13 @@ column read (e ∷ log) (suc i) = column read log i
 
 module _ (f : ℕ → ℕ) where
   unfoldable pub entryBy : Entry → Entry
-  entryBy e = record { ty = e .ty; length = e .length; stamp = record { 0 = f (e .stamp .0) }; time = e .time; body = e .body }
+  entryBy e = record { ty = e .ty; length = e .length; stamp = record { 0 = f (e .stamp .0) }; time = e .time; published = e .published; body = e .body }
 
   unfoldable pub requestBy : DiagnosticRequest → DiagnosticRequest
   requestBy q = record { dialog = q .dialog; accepted = f (q .accepted); elements = q .elements }
 
   unfoldable pub requesterBy : Requester → Requester
-  requesterBy r = record { address = r .address; events = r .events; diagnostics = Option·map requestBy (r .diagnostics) }
+  requesterBy r = record { address = r .address; form = r .form; events = r .events; diagnostics = Option·map requestBy (r .diagnostics) }
 
   abbrev pub timerBy : Timer → Timer
   timerBy t = record { last = t .last; now = f (t .now) }
@@ -105,7 +105,7 @@ module _ (f : ℕ → ℕ) where
 
   map-find : (a : Address) (rs : List Requester) → find a (map requesterBy rs) ≡ Option·map requesterBy (find a rs)
   unfolding requesterBy
-  map-find = find-map requesterBy (λ r. refl)
+  map-find = find-map requesterBy (λ r. (refl, refl))
 
   map-put : (a : Address) (x : Requester) (rs : List Requester) → put a (requesterBy x) (map requesterBy rs) ≡ map requesterBy (put a x rs)
   unfolding put requesterBy
@@ -118,7 +118,7 @@ module _ (f : ℕ → ℕ) where
   map-square h h′ e [] = refl
   map-square h h′ e (r ∷ rs) = ap₂ _∷_ (e r) (map-square h h′ e rs)
 
-  pub new-same : (l : List Address) → map requesterBy (map newRequester l) ≡ map newRequester l
+  pub new-same : (l : List Listed) → map requesterBy (map newRequester l) ≡ map newRequester l
   unfolding newRequester requesterBy
   new-same [] = refl
   new-same (a ∷ l) = ap (λ (rs : List Requester). newRequester a ∷ rs) (new-same l)
@@ -192,7 +192,7 @@ module _ (f : ℕ → ℕ) where
     unfolding OfDrop tickRequester requesterBy
     drop-all-by now [] e = refl
     drop-all-by now (r ∷ rs) e =
-        ap₂ (λ (o : Option DiagnosticRequest) (l : List Requester). record { address = r .address; events = r .events; diagnostics = o } ∷ l)
+        ap₂ (λ (o : Option DiagnosticRequest) (l : List Requester). record { address = r .address; form = r .form; events = r .events; diagnostics = o } ∷ l)
         (late-by now (r .diagnostics) (e .0)) (drop-all-by now rs (e .1))
 
     pub dropped-by : (g : Station) → OfDrop Agree (g .timer .now) (g .requesters) → withoutLate since (retimed g) ≡ retimed (withoutLate since′ g)
@@ -278,22 +278,22 @@ module _ (f : ℕ → ℕ) where
             last-same (meets since (map entryBy log) (x .ty) (x .filter)) (meets since′ log (x .ty) (x .filter)) (eligiblePlaces log r) (λ q a. meets-by (r .mark) x n q (omega arith)),
           )
 
-      front-by : (r : EventRequest) (x : Element) (xs : List Element) (behind : Option (Piece EventRequest)) (o : Option ℕ)
-          → reportFront (map entryBy log) r x xs behind o ≡ reportFront log r x xs behind o
+      front-by : (form : ℕ) (r : EventRequest) (x : Element) (xs : List Element) (behind : Option (Piece EventRequest)) (o : Option ℕ)
+          → reportFront form (map entryBy log) r x xs behind o ≡ reportFront form log r x xs behind o
       unfolding reportFront eventElement entryBy
-      front-by r x xs behind none = refl
-      front-by r x xs behind (some p) = rw (entry-by (eventElement (x .token)) (λ e. refl) log p)
+      front-by form r x xs behind none = refl
+      front-by form r x xs behind (some p) = rw (entry-by (eventElement form (x .token)) (λ e. refl) log p)
 
-      from-by : (r : EventRequest) (xs : List Element) → Needs r xs → nextFrom since (map entryBy log) r xs ≡ nextFrom since′ log r xs
+      from-by : (form : ℕ) (r : EventRequest) (xs : List Element) → Needs r xs → nextFrom since form (map entryBy log) r xs ≡ nextFrom since′ form log r xs
       unfolding nextFrom treatFront without
-      from-by r [] n = refl
-      from-by r (x ∷ xs) n = rw (from-by (without r xs) xs (needs-behind r x xs n)) (go (eventTreatment (x .ty)))
+      from-by form r [] n = refl
+      from-by form r (x ∷ xs) n = rw (from-by form (without r xs) xs (needs-behind r x xs n)) (go (eventTreatment (x .ty)))
         where
           behind : Option (Piece EventRequest)
-          behind = nextFrom since′ log (without r xs) xs
+          behind = nextFrom since′ form log (without r xs) xs
 
-          go : (t : Treatment) → treatFront since (map entryBy log) r x xs behind t ≡ treatFront since′ log r x xs behind t
-          go Report = rw (place-by r x (needs-here r x xs n)) (front-by r x xs behind (nextEventPlace since′ log r x))
+          go : (t : Treatment) → treatFront since form (map entryBy log) r x xs behind t ≡ treatFront since′ form log r x xs behind t
+          go Report = rw (place-by r x (needs-here r x xs n)) (front-by form r x xs behind (nextEventPlace since′ log r x))
           go Incapable = refl
           go Cancel = refl
           go Identity = refl
@@ -301,41 +301,41 @@ module _ (f : ℕ → ℕ) where
       abbrev Inv : EventRequest → Type 0
       Inv r = Needs r (r .elements)
 
-      from-keeps : (r : EventRequest) (xs : List Element) → Inv r → Needs r xs → Kept Inv (nextFrom since′ log r xs)
+      from-keeps : (form : ℕ) (r : EventRequest) (xs : List Element) → Inv r → Needs r xs → Kept Inv (nextFrom since′ form log r xs)
       unfolding nextFrom treatFront reportFront without gave Kept
-      from-keeps r [] i n = tt
-      from-keeps r (x ∷ xs) i n = go (eventTreatment (x .ty)) (from-keeps (without r xs) xs (needs-behind r x xs n) (needs-behind r x xs n))
+      from-keeps form r [] i n = tt
+      from-keeps form r (x ∷ xs) i n = go (eventTreatment (x .ty)) (from-keeps form (without r xs) xs (needs-behind r x xs n) (needs-behind r x xs n))
         where
           behind : Option (Piece EventRequest)
-          behind = nextFrom since′ log (without r xs) xs
+          behind = nextFrom since′ form log (without r xs) xs
 
-          front : (o : Option ℕ) → Kept Inv behind → Kept Inv (reportFront log r x xs behind o)
+          front : (o : Option ℕ) → Kept Inv behind → Kept Inv (reportFront form log r x xs behind o)
           front none k = either (Kept Inv) _ _ behind (λ _. needs-behind r x xs n) (λ _. k)
           front (some p) k = i
 
-          go : (t : Treatment) → Kept Inv behind → Kept Inv (treatFront since′ log r x xs behind t)
+          go : (t : Treatment) → Kept Inv behind → Kept Inv (treatFront since′ form log r x xs behind t)
           go Report k = front (nextEventPlace since′ log r x) k
           go Incapable k = needs-behind r x xs n
           go Cancel k = k
           go Identity k = k
 
-      next-by : (r : EventRequest) → Inv r → nextEvent since (map entryBy log) r ≡ nextEvent since′ log r
+      next-by : (form : ℕ) (r : EventRequest) → Inv r → nextEvent since form (map entryBy log) r ≡ nextEvent since′ form log r
       unfolding nextEvent
-      next-by r i = from-by r (r .elements) i
+      next-by form r i = from-by form r (r .elements) i
 
-      next-keeps : (r : EventRequest) → Inv r → Kept Inv (nextEvent since′ log r)
+      next-keeps : (form : ℕ) (r : EventRequest) → Inv r → Kept Inv (nextEvent since′ form log r)
       unfolding nextEvent
-      next-keeps r i = from-keeps r (r .elements) i i
+      next-keeps form r i = from-keeps form r (r .elements) i i
 
       give-events-by : (b : List ℕ) (r : Requester) (q : EventRequest) → Inv q
           → giveEvents since (map entryBy log) b (requesterBy r) q ≡ servedBy (giveEvents since′ log b r q)
       unfolding giveEvents requesterBy
       give-events-by b r q i =
-          let l = nextEvent since (map entryBy log) in
-          let l′ = nextEvent since′ log in
+          let l = nextEvent since (r .form) (map entryBy log) in
+          let l′ = nextEvent since′ (r .form) log in
           let p = nextFrame l′ (reportAction Event) (q .dialog) (room b) q in
-          let e = frame-same l l′ Inv next-by next-keeps (reportAction Event) (q .dialog) (room b) q i in
-          rw (e, next-by (p .rest) (frame-keeps l l′ Inv next-by next-keeps (reportAction Event) (q .dialog) (room b) q i))
+          let e = frame-same l l′ Inv (next-by (r .form)) (next-keeps (r .form)) (reportAction Event) (q .dialog) (room b) q i in
+          rw (e, next-by (r .form) (p .rest) (frame-keeps l l′ Inv (next-by (r .form)) (next-keeps (r .form)) (reportAction Event) (q .dialog) (room b) q i))
 
     give-diagnostics-by : (i b : List ℕ) (r : Requester) (q : DiagnosticRequest)
         → giveDiagnostics i b (requesterBy r) (requestBy q) ≡ servedBy (giveDiagnostics i b r q)
@@ -389,12 +389,12 @@ module _ (f : ℕ → ℕ) where
     unfolding takeRequest
     request-by now log q r = rw (take-kind-by now log q r (q .kind)) (sym (apply-if servedBy (not (eqb (q .refusal .number) 0)) _ _))
 
-    named-by : (log : List Entry) (l : List Address) (g : Station) (o : Option (List ℕ)) → renameWith (map entryBy log) l (retimed g) o ≡ resultBy (renameWith log l g o)
+    named-by : (log : List Entry) (l : List Listed) (g : Station) (o : Option (List ℕ)) → renameWith (map entryBy log) l (retimed g) o ≡ resultBy (renameWith log l g o)
     unfolding renameWith retimed
     named-by log l g none = refl
     named-by log l g (some i) = rw (new-same l)
 
-    rename-by : (most : Capacities) (log : List Entry) (l : List Address) (g : Station) → rename most (map entryBy log) l (retimed g) ≡ resultBy (rename most log l g)
+    rename-by : (most : Capacities) (log : List Entry) (l : List Listed) (g : Station) → rename most (map entryBy log) l (retimed g) ≡ resultBy (rename most log l g)
     unfolding rename retimed
     rename-by most log l g =
         rw (named-by log l g (g .identity)) (sym (apply-if resultBy (badList (most .requesters) l) (result g (refusedFor badRequesterList) []) (renameWith log l g (g .identity))))

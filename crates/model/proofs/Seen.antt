@@ -17,7 +17,7 @@ use Rattle.octets.proofs.AddressLaws.{same-true}
 use Rattle.requests.specs.declared.Request.{Request}
 use Rattle.events.specs.declared.Entry.{Entry}
 use Rattle.model.specs.Clocks.{Timer, Clock, advanced}
-use Rattle.model.specs.Model.{Capacities, Address, Requester, Station, Call, clock, logging, frame, report, roam, change, accepted, Result}
+use Rattle.model.specs.Model.{Capacities, Address, Listed, Requester, Station, Call, clock, logging, frame, report, roam, change, accepted, Result}
 use Rattle.requests.specs.Requests.{readRequest}
 use Rattle.events.specs.Loggings.{LoggedEvent, entryOf}
 use Rattle.events.specs.Log.{pushed}
@@ -30,15 +30,18 @@ use Rattle.model.specs.Independence.{quietFor, quiet}
 
 -- ---- the requester that an address finds
 
--- a function that keeps each requester's address
+-- a function that keeps what each requester was named by: its address, and its form
+abbrev pub SameName : Requester → Requester → Type 0
+SameName x r = (x .address ≡ r .address) × (x .form ≡ r .form)
+
 abbrev pub Keeps : (Requester → Requester) → Type 0
-Keeps f = (r : Requester) → f r .address ≡ r .address
+Keeps f = (r : Requester) → SameName (f r) r
 
 pub find-map : (f : Requester → Requester) → Keeps f → (s : Address) (rs : List Requester) → find s (map f rs) ≡ Option·map f (find s rs)
 unfolding find
 find-map f k s [] = refl
 find-map f k s (r ∷ rs) =
-    ap (λ (a : Address). if same s a then some (f r) else find s (map f rs)) (k r)
+    ap (λ (a : Address). if same s a then some (f r) else find s (map f rs)) (k r .0)
     ∙ ap (λ (o : Option Requester). if same s (r .address) then some (f r) else o) (find-map f k s rs)
     ∙ sym (apply-if (Option·map f) (same s (r .address)) (some r) (find s rs))
 
@@ -100,11 +103,11 @@ logSeen most reading e v =
 unfoldable pub servedSeen : Address → Address → (Requester → Served) → Seen → Seen
 servedSeen s a serve v = if same a s then onSlot (λ r. serve r .requester) v else v
 
-renamedSeen : Address → List Entry → List Address → Seen → Option (List ℕ) → Seen
+renamedSeen : Address → List Entry → List Listed → Seen → Option (List ℕ) → Seen
 renamedSeen s log l v none = v
 renamedSeen s log l v (some i) = record { timer = v .timer; identity = some i; log = log; slot = find s (map newRequester l) }
 
-pub renameSeen : Capacities → Address → List Entry → List Address → Seen → Seen
+pub renameSeen : Capacities → Address → List Entry → List Listed → Seen → Seen
 renameSeen most s log l v = if badList (most .requesters) l then v else renamedSeen s log l v (v .identity)
 
 -- what a call makes of it, the late diagnostics dropped
@@ -119,45 +122,45 @@ actSeen k most s (change t l) v = renameSeen most s [] l v
 unfoldable pub stepSeen : Clock → Capacities → Address → Call → Seen → Seen
 stepSeen k most s c v = actSeen k most s c (tickSeen k (readingOf c) v)
 
--- ---- every piece keeps the address
+-- ---- every piece keeps the address and the form
 
 pub tick-keeps : (since : ℕ → ℕ → ℕ) (now : ℕ) → Keeps (tickRequester since now)
 unfolding tickRequester
-tick-keeps since now r = refl
+tick-keeps since now r = (refl, refl)
 
 pub log-keeps : (most : Capacities) (log : List Entry) → Keeps (logRequester most log)
 unfolding logRequester lowerRequester
-log-keeps most log r = either (λ (x : Requester). x .address ≡ r .address) _ _ _ (λ _. refl) (λ _. refl)
+log-keeps most log r = either (λ (x : Requester). SameName x r) _ _ _ (λ _. (refl, refl)) (λ _. (refl, refl))
 
-kind-keeps : (now : ℕ) (log : List Entry) (q : Request) (r : Requester) (kind : Kind) → takeKind now log q r kind .address ≡ r .address
+pub kind-keeps : (now : ℕ) (log : List Entry) (q : Request) (r : Requester) (kind : Kind) → SameName (takeKind now log q r kind) r
 unfolding takeKind
-kind-keeps now log q r Event = refl
-kind-keeps now log q r Diagnostic = refl
+kind-keeps now log q r Event = (refl, refl)
+kind-keeps now log q r Diagnostic = (refl, refl)
 
--- a call that keeps the address of its requester
+-- a call that keeps those of its requester
 abbrev pub ServeKeeps : (Requester → Served) → Type 0
-ServeKeeps serve = (r : Requester) → serve r .requester .address ≡ r .address
+ServeKeeps serve = (r : Requester) → SameName (serve r .requester) r
 
 pub take-keeps : (now : ℕ) (log : List Entry) (q : Request) → ServeKeeps (takeRequest now log q)
 unfolding takeRequest
 take-keeps now log q r =
-    either (λ (x : Served). x .requester .address ≡ r .address) _ _ _ (λ _. refl) (λ _. kind-keeps now log q r (q .kind))
+    either (λ (x : Served). SameName (x .requester) r) _ _ _ (λ _. (refl, refl)) (λ _. kind-keeps now log q r (q .kind))
 
-outstanding-keeps : {Q : Type 0} (give : Q → Served) (r : Requester) (b : List ℕ) → ((q : Q) → give q .requester .address ≡ r .address)
-    → (o : Option Q) → ifOutstanding give r b o .requester .address ≡ r .address
+outstanding-keeps : {Q : Type 0} (give : Q → Served) (r : Requester) (b : List ℕ) → ((q : Q) → SameName (give q .requester) r)
+    → (o : Option Q) → SameName (ifOutstanding give r b o .requester) r
 unfolding ifOutstanding
-outstanding-keeps give r b k none = refl
+outstanding-keeps give r b k none = (refl, refl)
 outstanding-keeps give r b k (some q) = k q
 
-give-kind-keeps : (since : ℕ → ℕ → ℕ) (i : Option (List ℕ)) (log : List Entry) (b : List ℕ) (r : Requester) (kind : Kind) → giveKind since i log b r kind .requester .address ≡ r .address
+give-kind-keeps : (since : ℕ → ℕ → ℕ) (i : Option (List ℕ)) (log : List Entry) (b : List ℕ) (r : Requester) (kind : Kind) → SameName (giveKind since i log b r kind .requester) r
 unfolding giveKind giveEvents giveDiagnostics
-give-kind-keeps since i log b r Event = outstanding-keeps (giveEvents since log b r) r b (λ q. refl) (r .events)
-give-kind-keeps since i log b r Diagnostic = outstanding-keeps (giveDiagnostics (octetsOf i) b r) r b (λ q. refl) (r .diagnostics)
+give-kind-keeps since i log b r Event = outstanding-keeps (giveEvents since log b r) r b (λ q. (refl, refl)) (r .events)
+give-kind-keeps since i log b r Diagnostic = outstanding-keeps (giveDiagnostics (octetsOf i) b r) r b (λ q. (refl, refl)) (r .diagnostics)
 
 pub give-keeps : (since : ℕ → ℕ → ℕ) (i : Option (List ℕ)) (log : List Entry) (kind : Kind) (b : List ℕ) → ServeKeeps (giveReport since i log kind b)
 unfolding giveReport
 give-keeps since i log kind b r =
-    either (λ (x : Served). x .requester .address ≡ r .address) _ _ _ (λ _. refl) (λ _. give-kind-keeps since i log b r kind)
+    either (λ (x : Served). SameName (x .requester) r) _ _ _ (λ _. (refl, refl)) (λ _. give-kind-keeps since i log b r kind)
 
 -- ---- a call makes of what is seen what it makes of the station
 
@@ -188,21 +191,21 @@ module _ (s a : Address) (serve : Requester → Served) (b : List ℕ) (g : Stat
       let f : find s (g .requesters) ≡ some r = ap (λ (x : Address). find x (g .requesters)) (sym q) ∙ e in
       ap (withSlot (seen s g))
       (ap (λ (x : Address). find s (put x (serve r .requester) (g .requesters))) q
-      ∙ put-own s (serve r .requester) r (keeps r) (g .requesters) f
+      ∙ put-own s (serve r .requester) r (keeps r .0) (g .requesters) f
       ∙ ap (Option·map (λ (x : Requester). serve x .requester)) (sym f))
-  seen-found (some r) e false p = ap (withSlot (seen s g)) (put-other a (serve r .requester) r (keeps r) s p (g .requesters) e)
+  seen-found (some r) e false p = ap (withSlot (seen s g)) (put-other a (serve r .requester) r (keeps r .0) s p (g .requesters) e)
 
   seen-served : seen s (serveListed a serve b g .station) ≡ servedSeen s a serve (seen s g)
   unfolding serveListed servedSeen
   seen-served = seen-found (find a (g .requesters)) refl (same a s) refl
 
-seen-renamed : (s : Address) (log : List Entry) (l : List Address) (g : Station) (o : Option (List ℕ))
+seen-renamed : (s : Address) (log : List Entry) (l : List Listed) (g : Station) (o : Option (List ℕ))
     → seen s (renameWith log l g o .station) ≡ renamedSeen s log l (seen s g) o
 unfolding seen renameWith renamedSeen
 seen-renamed s log l g none = refl
 seen-renamed s log l g (some i) = refl
 
-seen-rename : (most : Capacities) (s : Address) (log : List Entry) (l : List Address) (g : Station) → seen s (rename most log l g .station) ≡ renameSeen most s log l (seen s g)
+seen-rename : (most : Capacities) (s : Address) (log : List Entry) (l : List Listed) (g : Station) → seen s (rename most log l g .station) ≡ renameSeen most s log l (seen s g)
 unfolding rename renameSeen seen
 seen-rename most s log l g =
     apply-if (λ (x : Result). seen s (x .station)) (badList (most .requesters) l) _ _

@@ -16,7 +16,7 @@ use Rattle.events.specs.Loggings.{entryWith}
 use Rattle.events.specs.Conditions.{asked, transitionMeets, typeMeets, meetsAt, meets}
 use Rattle.identities.specs.Identity.{stands, passRow, goodFrom, goodIdentity}
 use Rattle.model.specs.Clocks.{elapsedAt}
-use Rattle.model.specs.Requesters.{repeated, badList, newRequester, find, put}
+use Rattle.model.specs.Requesters.{repeated, badListed, badList, newRequester, find, put}
 use Rattle.model.specs.Dialogs.{replace}
 use Rattle.model.specs.Diagnostics.{diagnosticTreatment, isLate, onTime, unlessOver, dropLate, diagnosticsOf, takeDiagnostics}
 use Rattle.model.specs.Stations.{setup, timed, tickRequester, withoutLate, withRequester, serveFound, serveListed, takeKind, takeRequest, requestCall, frameCall, act, readingOf, step}
@@ -24,5 +24,5 @@ use Rattle.model.specs.Runs.{run}
 use Rattle.model.specs.Starred.{cases, outstanding, someIdentity, someConsole, waits, slowTransition, slow, leastTransition, equal, caseHolds, allHold, Starred}
 
 pub starred : Starred
-unfolding allHold caseHolds cases outstanding someIdentity someConsole waits slowTransition slow leastTransition equal if_then_else_ repeatWhile pieceEnd wholeStep Subelements·step walk subelementsOf any badToken withElement ownRequestStep elementStep walkElements frameKind frameCause requestOf headerCause readRequest lengthOf bodyOctet bodyAt transitionBody entryWith asked transitionMeets typeMeets meetsAt meets stands passRow goodFrom goodIdentity elapsedAt repeated badList newRequester find put replace diagnosticTreatment isLate onTime unlessOver dropLate diagnosticsOf takeDiagnostics setup timed tickRequester withoutLate withRequester serveFound serveListed takeKind takeRequest requestCall frameCall act readingOf step run same octetsAt
+unfolding allHold caseHolds cases outstanding someIdentity someConsole waits slowTransition slow leastTransition equal if_then_else_ repeatWhile pieceEnd wholeStep Subelements·step walk subelementsOf any badToken withElement ownRequestStep elementStep walkElements frameKind frameCause requestOf headerCause readRequest lengthOf bodyOctet bodyAt transitionBody entryWith asked transitionMeets typeMeets meetsAt meets stands passRow goodFrom goodIdentity elapsedAt repeated badListed badList newRequester find put replace diagnosticTreatment isLate onTime unlessOver dropLate diagnosticsOf takeDiagnostics setup timed tickRequester withoutLate withRequester serveFound serveListed takeKind takeRequest requestCall frameCall act readingOf step run same octetsAt
 starred = refl

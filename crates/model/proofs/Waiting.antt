@@ -28,7 +28,7 @@ use Rattle.events.specs.Loggings.{LoggedEvent, EventLengths}
 use Rattle.events.proofs.LogLaws.{pushed-few}
 use Rattle.identities.proofs.Laws.{identity-most}
 use Rattle.model.specs.Clocks.{Clock}
-use Rattle.model.specs.Model.{Capacities, standard, Address, Requester, Station, Call, clock, logging, frame, report, roam, change, Answer, accepted, nothing, ofLength, turnedAway, Result}
+use Rattle.model.specs.Model.{Capacities, standard, Address, Listed, Requester, Station, Call, clock, logging, frame, report, roam, change, Answer, accepted, nothing, ofLength, turnedAway, Result}
 use Rattle.model.specs.Requesters.{newRequester, find, put}
 use Rattle.model.specs.Outstanding.{dialogOf, dialogIn, outstandingDialog}
 use Rattle.model.specs.Stations.{refusedFor, setup, timed, tickRequester, withoutLate, tick, logRequester, logEntry, logCall, Served, withRequester, serveFound, serveListed, takeRequest, requestCall, frameCall, octetsOf, giveReport, reportCall, renameWith, rename, act, readingOf, step}
@@ -52,7 +52,7 @@ unfolding leftIn
 some-left kind none = omega arith
 some-left kind (some r) = left-one kind r
 
-new-none : (kind : Kind) (s : Address) (l : List Address) → dialogIn kind (find s (map newRequester l)) ≡ none
+new-none : (kind : Kind) (s : Address) (l : List Listed) → dialogIn kind (find s (map newRequester l)) ≡ none
 unfolding find newRequester dialogIn dialogOf
 new-none kind s [] = refl
 new-none kind s (a ∷ l) = either (λ (o : Option Requester). dialogIn kind o ≡ none) _ _ _ (λ _. go kind) (λ _. new-none kind s l)
@@ -104,11 +104,11 @@ module _ (most : Capacities) (kind : Kind) (s : Address) (n : ℕ) (u : Station)
         by-sender true q =
             let own-address : a ≡ s = same-true a s q in
             let before : find s rs ≡ some r = ap (λ (y : Address). find y rs) (sym own-address) ∙ p in
-            let after : find s (put a x rs) ≡ some x = ap (λ (y : Address). find s (put y x rs)) own-address ∙ put-own s x r (keeps r) rs before in
+            let after : find s (put a x rs) ≡ some x = ap (λ (y : Address). find s (put y x rs)) own-address ∙ put-own s x r (keeps r .0) rs before in
             rw (after, before) (own q r (rw before at was))
-        by-sender false q = let y = other (serve r .answer) q in rw (put-other a x r (keeps r) s q rs p) (same-fate _ _ (y .0) (y .1))
+        by-sender false q = let y = other (serve r .answer) q in rw (put-other a x r (keeps r .0) s q rs p) (same-fate _ _ (y .0) (y .1))
 
-  rename-fate : (log : List Entry) (l : List Address) → FateAt (isAccepted (rename most log l u .answer)) 0 (rename most log l u .station .requesters)
+  rename-fate : (log : List Entry) (l : List Listed) → FateAt (isAccepted (rename most log l u .answer)) 0 (rename most log l u .station .requesters)
   unfolding rename renameWith isAccepted
   rename-fate log l = either (λ (x : Result). FateAt (isAccepted (x .answer)) 0 (x .station .requesters)) _ _ _ (λ _. same-fate _ _ refl refl) (λ _. go (u .identity))
     where
@@ -171,7 +171,7 @@ module _ (k : Clock) (most : Capacities) where
   unfolding step withoutLate timed ShortEntry
   step-short g c h short = (
     act-log (All ShortEntry) nil (k .since) most c (tick k (readingOf c) g)
-        (λ t x e good. short-pushed _ _ _ (short .0) (λ token. event-fits token _ t x (handed-event c t x e h) good)) (short .0),
+        (λ t x e good. short-pushed _ _ _ (short .0) (λ form token. event-fits form token _ t x (handed-event c t x e h) good)) (short .0),
     rw (step-identity k most g c) (short .1),
   )
 
@@ -187,7 +187,7 @@ module _ (k : Clock) (most : Capacities) where
       run-few one cs (step k most g c .station)
       (act-log (λ (log : List Entry). length log ≤ most .events) (omega arith) (k .since) most c (tick k (readingOf c) g) (λ t x e good. pushed-few (most .events) (g .log) _ one few) few)
 
-module _ (most : Capacities) (i : List ℕ) (l : List Address) where
+module _ (most : Capacities) (i : List ℕ) (l : List Listed) where
   setup-log : setup most i l .station .log ≡ []
   setup-log = ap (λ (g : Station). g .log) (setup-blank most i l .2)
 
@@ -313,7 +313,7 @@ module _ (k : Clock) (most : Capacities) (kind : Kind) (s : Address) (n : ℕ) w
       found : (r : Option Requester) → find s (u .requesters) ≡ r → Few (serveFound s serve [] u r)
       found none e = λ p. absurd (opens .was-not p)
       found (some r) e =
-          rw (put-own s (serve r .requester) r (take-keeps (u .timer .now) (u .log) q r) (u .requesters) e)
+          rw (put-own s (serve r .requester) r (take-keeps (u .timer .now) (u .log) q r .0) (u .requesters) e)
           (take-opens most q (request-few (most .elements) o) n (u .timer .now) (u .log) kind enough r (λ p. opens .was-not (rw e p)))
 
 frame-named : (k : Clock) (most : Capacities) (s : Address) (t : ℕ) (d : Address) (o : List ℕ) (g : Station) → let q = readRequest (most .elements) o in
@@ -336,10 +336,10 @@ frame-named k most s t d o g e c = either Named _ _ _ (λ _ e. never cc) (λ _. 
     found : (r : Option Requester) → find s (u .requesters) ≡ r → Named (serveFound s serve [] u r)
     found none p = λ e. never cc
     found (some r) p =
-        rw (put-own s (serve r .requester) r (take-keeps (u .timer .now) (u .log) q r) (u .requesters) p)
+        rw (put-own s (serve r .requester) r (take-keeps (u .timer .now) (u .log) q r .0) (u .requesters) p)
         (take-named (u .timer .now) (u .log) q (request-some (most .elements) o) c r)
 
-module _ (k : Clock) (most : Capacities) (kind : Kind) (enough : (i : List ℕ) (l : List Address) (cs : List Call) → Enough most (run k most (setup most i l .station) cs .log) kind) where
+module _ (k : Clock) (most : Capacities) (kind : Kind) (enough : (i : List ℕ) (l : List Listed) (cs : List Call) → Enough most (run k most (setup most i l .station) cs .log) kind) where
   once-opened : (P : Address → ℕ → Station → List Call → Type 0)
       → ((s : Address) (n : ℕ) (g : Station) (later : List Call) → All HandedIn later → ShortIn g → outstandingDialog kind s g ≡ some n → framesLeft k most kind s n g ≤ mostFrames most kind → P s n g later)
       → OnceOpened k most kind P

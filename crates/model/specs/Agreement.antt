@@ -5,7 +5,7 @@ use mathlib.Core.Path.{_≡_}
 use mathlib.Core.List.{List, [], _∷_}
 use Rattle.units.specs.Time.{turn, elapsedSince}
 use Rattle.model.specs.Clocks.{Clock, counterClock, elapsedClock}
-use Rattle.model.specs.Model.{Capacities, Address, Station, Call}
+use Rattle.model.specs.Model.{Capacities, Listed, Station, Call}
 use Rattle.model.specs.Stations.{setup, readingOf, step}
 use Rattle.model.specs.Ages.{EachAge}
 use Rattle.model.specs.Runs.{Always, Reply, reply}
@@ -23,5 +23,5 @@ Young g c = (readingOf c < turn) × BelowTop g c × EachAge (λ later earlier. e
 
 abbrev pub OldAndNewAgree : Type 0
 OldAndNewAgree =
-    (most : Capacities) (i : List ℕ) (l : List Address) (cs : List Call) → Always Young elapsedClock most (setup most i l .station) cs
+    (most : Capacities) (i : List ℕ) (l : List Listed) (cs : List Call) → Always Young elapsedClock most (setup most i l .station) cs
     → replies counterClock most (setup most i l .station) cs ≡ replies elapsedClock most (setup most i l .station) cs

@@ -12,7 +12,7 @@ use Rattle.laws.specs.Choice.{if_then_else_}
 use Rattle.units.specs.Time.{turn, elapsedTop}
 use Rattle.octets.specs.Addresses.{same}
 use Rattle.model.specs.Clocks.{Clock, elapsedClock}
-use Rattle.model.specs.Model.{Capacities, Address, Station, Call, clock, logging, frame, report, roam, change, Answer, accepted, nothing, ofLength, turnedAway}
+use Rattle.model.specs.Model.{Capacities, Address, Listed, Station, Call, clock, logging, frame, report, roam, change, Answer, accepted, nothing, ofLength, turnedAway}
 use Rattle.model.specs.Stations.{setup, readingOf, step}
 use Rattle.model.specs.Runs.{run, Always, sender, Reply, reply, toSender}
 
@@ -27,10 +27,10 @@ quiet s c = quietFor s c (sender c)
 
 -- "the console list of the last accepted network change (or setup)", and "the later calls only"
 pub record Origin : Type 0 where
-  pub list : List Address
+  pub list : List Listed
   pub later : List Call
 
-abbrev pub from : List Address → Origin
+abbrev pub from : List Listed → Origin
 from l = record { list = l; later = [] }
 
 abbrev pub longer : Origin → Call → Origin
@@ -76,13 +76,13 @@ BelowTop g c = g .timer .now < elapsedTop
 -- Demand 3: for every identity and list that setup was given, "accepted or refused", and every list of calls
 abbrev pub Independent : Type 0
 Independent =
-    (most : Capacities) (i : List ℕ) (l : List Address) (cs : List Call) → Always BelowTop elapsedClock most (setup most i l .station) cs
+    (most : Capacities) (i : List ℕ) (l : List Listed) (cs : List Call) → Always BelowTop elapsedClock most (setup most i l .station) cs
     → answers most (setup most i l .station) cs ≡ freshAnswers most i (from l) (setup most i l .station) cs
 
 -- Fewer calls than a turn has milliseconds never come to the top.
 abbrev pub IndependentShortRun : Type 0
 IndependentShortRun =
-    (most : Capacities) (i : List ℕ) (l : List Address) (cs : List Call) → length cs < turn
+    (most : Capacities) (i : List ℕ) (l : List Listed) (cs : List Call) → length cs < turn
     → answers most (setup most i l .station) cs ≡ freshAnswers most i (from l) (setup most i l .station) cs
 
 -- The same as the first said of one call and those before it.
@@ -92,7 +92,7 @@ origin most o g (c ∷ cs) = origin most (originAfter o c (step elapsedClock mos
 
 abbrev pub IndependentCall : Type 0
 IndependentCall =
-    (most : Capacities) (i : List ℕ) (l : List Address) (earlier : List Call) (c : Call) (s : Address) → sender c ≡ some s
+    (most : Capacities) (i : List ℕ) (l : List Listed) (earlier : List Call) (c : Call) (s : Address) → sender c ≡ some s
     → Always BelowTop elapsedClock most (setup most i l .station) (earlier ++ (c ∷ []))
     → reply elapsedClock most (run elapsedClock most (setup most i l .station) earlier) c
     ≡ freshReply most i (origin most (from l) (setup most i l .station) earlier) c s

@@ -3,6 +3,8 @@
 use Prim.Native.Nat.{ℕ}
 use mathlib.Core.List.{List}
 use mathlib.Core.Option.{Option}
+use lib.ListN.{getD}
+use Rattle.octets.specs.Addresses.{addressAt}
 use Rattle.octets.specs.declared.numbers.Kind.{Kind}
 use Rattle.octets.specs.declared.refusals.Refusal.{Refusal}
 use Rattle.requests.specs.declared.Element.{Element}
@@ -31,6 +33,16 @@ standard = record { events = logCapacity; requesters = requesterCapacity; elemen
 abbrev pub Address : Type 0
 Address = List ℕ
 
+-- what a list names a requester by, seven octets: its address, and document 02 (g)'s form, "named per console in the console list"
+abbrev pub Listed : Type 0
+Listed = List ℕ
+
+abbrev pub listedAddress : Listed → Address
+listedAddress x = addressAt x 0
+
+abbrev pub listedForm : Listed → ℕ
+listedForm x = getD x 6 0
+
 -- an outstanding event request: its dialog token; how many places of the log, from the oldest, were logged before acceptance; its
 -- elements left; and of the front one how many events it gave, and below which place of the log its next one is
 pub record EventRequest : Type 0 where
@@ -46,9 +58,10 @@ pub record DiagnosticRequest : Type 0 where
   pub accepted : ℕ
   pub elements : List Diagnostic
 
--- "Each console has one event request and one diagnostic request at most."
+-- a console, with the form it follows: "Each console has one event request and one diagnostic request at most."
 pub record Requester : Type 0 where
   pub address : Address
+  pub form : ℕ
   pub events : Option EventRequest
   pub diagnostics : Option DiagnosticRequest
 
@@ -69,8 +82,8 @@ pub data Call : Type 0 where
   -- requester, kind, the lent buffer's octets at entry
   report : ℕ → Address → Kind → List ℕ → Call
   -- a move inside the network, a network change: the new requesters
-  roam : ℕ → List Address → Call
-  change : ℕ → List Address → Call
+  roam : ℕ → List Listed → Call
+  change : ℕ → List Listed → Call
 
 -- "accepted", "nothing", length, or refusal number and place
 pub data Answer : Type 0 where

@@ -24,6 +24,7 @@ use Rattle.model.specs.declared.Treatment.{Treatment}
 use Rattle.model.specs.declared.Treatment.the-variants.{Report, Incapable, Cancel, Identity}
 use Rattle.model.specs.Clocks.{Clock}
 use Rattle.model.specs.Model.{Capacities, Address, Station, Call, clock, logging, frame, report, roam, change, Answer, accepted, nothing, ofLength, turnedAway}
+use Rattle.model.specs.Requesters.{formOf}
 use Rattle.model.specs.Outstanding.{outstandingDialog}
 use Rattle.model.specs.Events.{eventTreatment, bare}
 use Rattle.model.specs.Stations.{step}
@@ -40,17 +41,17 @@ unfoldable pub orBare : Element → List (List ℕ) → List (List ℕ)
 orBare x [] = bare x successful ∷ []
 orBare x (o ∷ os) = o ∷ os
 
--- the report elements of one element, by what its type decides
-unfoldable pub treatedReports : (ℕ → ℕ → ℕ) → List Entry → ℕ → Element → Treatment → List (List ℕ)
-treatedReports since log n x Report = orBare x (map (λ p. eventElement (x .token) (getD log p pastLog)) (latestMatches since log n x))
-treatedReports since log n x Incapable = bare x incapable ∷ []
-treatedReports since log n x Cancel = []
-treatedReports since log n x Identity = []
+-- the report elements of one element in a form, by what its type decides
+unfoldable pub treatedReports : (ℕ → ℕ → ℕ) → ℕ → List Entry → ℕ → Element → Treatment → List (List ℕ)
+treatedReports since form log n x Report = orBare x (map (λ p. eventElement form (x .token) (getD log p pastLog)) (latestMatches since log n x))
+treatedReports since form log n x Incapable = bare x incapable ∷ []
+treatedReports since form log n x Cancel = []
+treatedReports since form log n x Identity = []
 
 -- "Elements go in request order"; n events were logged before acceptance
-unfoldable pub requestReports : (ℕ → ℕ → ℕ) → List Entry → ℕ → List Element → List (List ℕ)
-requestReports since log n [] = []
-requestReports since log n (x ∷ xs) = treatedReports since log n x (eventTreatment (x .ty)) ++ requestReports since log n xs
+unfoldable pub requestReports : (ℕ → ℕ → ℕ) → ℕ → List Entry → ℕ → List Element → List (List ℕ)
+requestReports since form log n [] = []
+requestReports since form log n (x ∷ xs) = treatedReports since form log n x (eventTreatment (x .ty)) ++ requestReports since form log n xs
 
 -- ---- what report calls gave
 
@@ -108,4 +109,4 @@ NewestFirst =
     (k : Clock) (most : Capacities) (g : Station) (t : ℕ) (d s : Address) (o : List ℕ) (later : List Call) → OpensEvents k most g t d s o → All (LetsBe s) later
     → let q = readRequest (most .elements) o in
     let h = step k most g (frame t d s o) .station in
-    GivenInOrder (requestReports (k .since) (g .log) (length (g .log)) (take (q .count) (q .elements))) (eventsGiven k most s h later) (outstandingDialog Event s (run k most h later))
+    GivenInOrder (requestReports (k .since) (formOf s (g .requesters)) (g .log) (length (g .log)) (take (q .count) (q .elements))) (eventsGiven k most s h later) (outstandingDialog Event s (run k most h later))

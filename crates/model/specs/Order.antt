@@ -7,7 +7,7 @@ use mathlib.Core.Bool.{false}
 use mathlib.Core.List.{List, [], _∷_}
 use Rattle.octets.specs.Addresses.{same}
 use Rattle.model.specs.Clocks.{elapsedClock}
-use Rattle.model.specs.Model.{Capacities, Address, Station, Call, frame, roam, change, accepted}
+use Rattle.model.specs.Model.{Capacities, Address, Listed, Station, Call, frame, roam, change, accepted}
 use Rattle.model.specs.Stations.{step}
 use Rattle.model.specs.Runs.{run, reply}
 
@@ -26,7 +26,7 @@ FramesUnordered =
 -- "two equal network changes at one reading equal one": the station and both answers, of refused ones too
 abbrev pub ChangesEqualOne : Type 0
 ChangesEqualOne =
-    (most : Capacities) (g : Station) (t : ℕ) (l : List Address)
+    (most : Capacities) (g : Station) (t : ℕ) (l : List Listed)
     → step elapsedClock most (step elapsedClock most g (change t l) .station) (change t l) ≡ step elapsedClock most g (change t l)
 
 -- "a move, then an accepted network change at the same reading, equal that change alone": the change is answered as it is alone, and where it
@@ -36,4 +36,4 @@ pub record EqualsAlone (most : Capacities) (g : Station) (move c : Call) : Type 
   pub same-station : step elapsedClock most g c .answer ≡ accepted → run elapsedClock most g (move ∷ c ∷ []) ≡ run elapsedClock most g (c ∷ [])
 
 abbrev pub MoveLeavesNoTrace : Type 0
-MoveLeavesNoTrace = (most : Capacities) (g : Station) (t : ℕ) (l m : List Address) → EqualsAlone most g (roam t l) (change t m)
+MoveLeavesNoTrace = (most : Capacities) (g : Station) (t : ℕ) (l m : List Listed) → EqualsAlone most g (roam t l) (change t m)

@@ -6,7 +6,7 @@ use mathlib.Core.Path.{_≡_}
 use mathlib.Core.List.{List, [], _∷_, map}
 use Rattle.units.specs.Time.{turn, elapsedTop}
 use Rattle.model.specs.Clocks.{elapsedClock}
-use Rattle.model.specs.Model.{Capacities, Address, Call}
+use Rattle.model.specs.Model.{Capacities, Listed, Call}
 use Rattle.model.specs.Stations.{setup, readingOf}
 use Rattle.model.specs.Runs.{run}
 
@@ -22,6 +22,6 @@ latest t (u ∷ us) = latest u us
 -- calls at the true times t and ts, at which the counter shows the true time modulo a turn
 abbrev pub ElapsedIsTrue : Type 0
 ElapsedIsTrue =
-    (most : Capacities) (i : List ℕ) (l : List Address) (cs : List Call) (t : ℕ) (ts : List ℕ) → LessThanTurnApart t ts
+    (most : Capacities) (i : List ℕ) (l : List Listed) (cs : List Call) (t : ℕ) (ts : List ℕ) → LessThanTurnApart t ts
     → map readingOf cs ≡ map (λ u. u % turn) (t ∷ ts)
     → run elapsedClock most (setup most i l .station) cs .timer .now ≡ min elapsedTop (latest t ts - t)

@@ -9,7 +9,7 @@ use Rattle.octets.specs.declared.refusals.Refusal.{Refusal}
 use Rattle.octets.specs.Refusals.{noElement, groupDestination, unknownRequester, shortBuffer, badTime, badRequesterList, badIdentity, badReportBody}
 use Rattle.requests.specs.Requests.{requestCauses}
 use Rattle.model.specs.Clocks.{Clock}
-use Rattle.model.specs.Model.{Capacities, Address, Station, Call, clock, logging, frame, report, roam, change, turnedAway}
+use Rattle.model.specs.Model.{Capacities, Listed, Station, Call, clock, logging, frame, report, roam, change, turnedAway}
 use Rattle.model.specs.Stations.{nobody, setup, readingOf, step}
 
 -- the lent buffer of a call at entry ([] where none is lent)
@@ -50,9 +50,9 @@ abbrev pub RefusedCall : Type 0
 RefusedCall = (k : Clock) (most : Capacities) (g : Station) (c : Call) (r : Refusal) → step k most g c .answer ≡ turnedAway r → LeftAlone k most g c r
 
 -- "setup yields a gate with no console. .. Setup refused by 15 yields the same consoleless gate."
-pub record LeftUnnamed (most : Capacities) (i : List ℕ) (l : List Address) (r : Refusal) : Type 0 where
+pub record LeftUnnamed (most : Capacities) (i : List ℕ) (l : List Listed) (r : Refusal) : Type 0 where
   pub refusal : RefusedBy setupCauses r
   pub station : setup most i l .station ≡ nobody
 
 abbrev pub RefusedSetup : Type 0
-RefusedSetup = (most : Capacities) (i : List ℕ) (l : List Address) (r : Refusal) → setup most i l .answer ≡ turnedAway r → LeftUnnamed most i l r
+RefusedSetup = (most : Capacities) (i : List ℕ) (l : List Listed) (r : Refusal) → setup most i l .answer ≡ turnedAway r → LeftUnnamed most i l r

@@ -1,4 +1,5 @@
--- What holds of a station after every list of calls from setup on, whatever its clock: where its log's entries and its identity come from.
+-- What holds of a station after every list of calls from setup on, whatever its clock: where its log's entries and its identity come from, and
+-- which forms its requesters follow.
 -- Its proof is in proofs/Sound.antt.
 -- Assumes nothing.
 use mathlib.Core.Path.{_≡_}
@@ -8,10 +9,11 @@ use mathlib.Core.Option.{none, some}
 use Prim.Native.Nat.{ℕ}
 use Rattle.laws.specs.Members.{Among, All}
 use Rattle.events.specs.declared.Entry.{Entry}
+use Rattle.events.specs.Times.{isForm}
 use Rattle.events.specs.Loggings.{Logging, entryFor}
 use Rattle.identities.specs.Identity.{goodIdentity}
 use Rattle.model.specs.Clocks.{Clock}
-use Rattle.model.specs.Model.{Capacities, Address, Station, Call, logging}
+use Rattle.model.specs.Model.{Capacities, Listed, Requester, Station, Call, logging}
 use Rattle.model.specs.Stations.{setup, logCause, step}
 use Rattle.model.specs.Runs.{run}
 
@@ -30,12 +32,17 @@ pub data Identified (i : List ℕ) (g : Station) : Type 0 where
   identified : g .identity ≡ some i → goodIdentity i ≡ true → Identified i g
   unidentified : g .identity ≡ none → g .requesters ≡ [] → Identified i g
 
+-- document 02 (g): a requester's form is one of the two
+abbrev pub Follows : Requester → Type 0
+Follows r = isForm (r .form) ≡ true
+
 pub record Sound (i : List ℕ) (cs : List Call) (g : Station) : Type 0 where
   pub log : LoggedBy cs (g .log)
   pub identity : Identified i g
+  pub forms : All Follows (g .requesters)
 
 -- setup gives it, every call of the list keeps it, and so it holds after the list
 pub record AlwaysSound : Type 0 where
-  pub at-setup : (most : Capacities) (i : List ℕ) (l : List Address) (cs : List Call) → Sound i cs (setup most i l .station)
+  pub at-setup : (most : Capacities) (i : List ℕ) (l : List Listed) (cs : List Call) → Sound i cs (setup most i l .station)
   pub kept : (k : Clock) (most : Capacities) (i : List ℕ) (cs : List Call) (g : Station) (c : Call) → Among c cs → Sound i cs g → Sound i cs (step k most g c .station)
-  pub after : (k : Clock) (most : Capacities) (i : List ℕ) (l : List Address) (cs : List Call) → Sound i cs (run k most (setup most i l .station) cs)
+  pub after : (k : Clock) (most : Capacities) (i : List ℕ) (l : List Listed) (cs : List Call) → Sound i cs (run k most (setup most i l .station) cs)

@@ -4,9 +4,10 @@
 use Prim.Native.Nat.{ℕ}
 use mathlib.Core.Path.{_≡_}
 use mathlib.Core.Bool.{Bool, true, false, not, _&&_}
-use mathlib.Core.List.{List, [], _∷_, map}
+use mathlib.Core.List.{List, [], _∷_, _++_, map}
 use mathlib.Core.Option.{Option, none, some}
 use lib.Dec.{eqb}
+use lib.ListN.{replicate}
 use Rattle.laws.specs.Members.{any}
 use Rattle.units.specs.Time.{age, elapsedSince, tusOf}
 use Rattle.octets.specs.Fields.{low, high}
@@ -16,10 +17,11 @@ use Rattle.requests.specs.Elements.{elementCapacity}
 use Rattle.requests.specs.Requests.{readRequest}
 use Rattle.events.specs.declared.Entry.{Entry}
 use Rattle.events.specs.declared.Transition.{Transition}
+use Rattle.events.specs.Times.{draft}
 use Rattle.events.specs.Loggings.{transition, entryOf}
 use Rattle.events.specs.Conditions.{meets}
 use Rattle.model.specs.Clocks.{Clock, elapsedClock}
-use Rattle.model.specs.Model.{standard, Address, DiagnosticRequest, Station, Call, clock, frame}
+use Rattle.model.specs.Model.{standard, Address, Listed, DiagnosticRequest, Station, Call, clock, frame}
 use Rattle.model.specs.Stations.{setup}
 use Rattle.model.specs.Runs.{run}
 
@@ -65,9 +67,13 @@ someIdentity = 13 ∷ 3 ∷ 1 ∷ 2 ∷ 3 ∷ 11 ∷ 1 ∷ 4 ∷ 12 ∷ 1 ∷ 5 
 unfoldable pub someConsole : Address
 someConsole = 2 ∷ 0 ∷ 0 ∷ 0 ∷ 0 ∷ 1 ∷ []
 
+-- it follows the draft
+abbrev pub someList : List Listed
+someList = (someConsole ++ (draft ∷ [])) ∷ []
+
 -- a gate that took calls
 abbrev pub someGate : Clock → List Call → Station
-someGate k cs = run k standard (setup standard someIdentity (someConsole ∷ []) .station) cs
+someGate k cs = run k standard (setup standard someIdentity someList .station) cs
 
 -- is a diagnostic with a timeout in seconds, accepted at one reading, outstanding after bare clock readings?
 unfoldable pub waits : Clock → ℕ → ℕ → List ℕ → Bool
@@ -78,7 +84,7 @@ waits k seconds accepted readings =
 -- a transition across the rollover; logged at 10 it takes 15 TU
 unfoldable pub slowTransition : Transition
 slowTransition = record {
-  time = 0 ∷ 0 ∷ 0 ∷ 0 ∷ 0 ∷ 1 ∷ 1 ∷ 0 ∷ 0 ∷ [];
+  times = record { time = 0 ∷ 0 ∷ 0 ∷ 0 ∷ 0 ∷ 1 ∷ 1 ∷ 0 ∷ 0 ∷ []; tsf = replicate 8 0; offset = replicate 10 0; error = replicate 5 0 };
   source = 2 ∷ 1 ∷ 1 ∷ 1 ∷ 1 ∷ 1 ∷ [];
   target = 2 ∷ 1 ∷ 1 ∷ 1 ∷ 1 ∷ 2 ∷ [];
   reason = 0;

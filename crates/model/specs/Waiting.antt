@@ -16,7 +16,7 @@ use Rattle.octets.specs.Addresses.{same}
 use Rattle.requests.specs.declared.Request.{Request}
 use Rattle.requests.specs.Requests.{readRequest}
 use Rattle.model.specs.Clocks.{Clock}
-use Rattle.model.specs.Model.{Capacities, standard, Address, Station, Call, clock, logging, frame, report, roam, change, Answer, accepted, nothing, ofLength, turnedAway}
+use Rattle.model.specs.Model.{Capacities, standard, Address, Listed, Station, Call, clock, logging, frame, report, roam, change, Answer, accepted, nothing, ofLength, turnedAway}
 use Rattle.model.specs.Outstanding.{outstandingDialog}
 use Rattle.model.specs.Diagnostics.{holdsCancel, diagnosticsOf}
 use Rattle.model.specs.Stations.{setup, tick, readingOf, step}
@@ -125,7 +125,7 @@ pub data Becomes (k : Clock) (most : Capacities) (kind : Kind) (s : Address) (n 
 -- station that setup and calls lead to
 abbrev pub OnceOpened : Clock → Capacities → Kind → (Address → ℕ → Station → List Call → Type 0) → Type 0
 OnceOpened k most kind P =
-    (i : List ℕ) (l : List Address) (earlier later : List Call) → All HandedIn earlier → All HandedIn later
+    (i : List ℕ) (l : List Listed) (earlier later : List Call) → All HandedIn earlier → All HandedIn later
     → let g = run k most (setup most i l .station) earlier in
     (t n : ℕ) (d s : Address) (o : List ℕ) → Opens k most kind s n g t d o → P s n (step k most g (frame t d s o) .station) later
 

@@ -11,13 +11,13 @@ use Rattle.events.specs.Loggings.{transition, rsna, peerLink}
 use Rattle.explanations.specs.declared.Explanation.{Explanation}
 use Rattle.explanations.specs.Explanations.{explanation}
 use Rattle.model.specs.Clocks.{elapsedClock}
-use Rattle.model.specs.Model.{standard, Address, Station, Result, Call, clock, logging, frame, report, roam, change}
+use Rattle.model.specs.Model.{standard, Listed, Station, Result, Call, clock, logging, frame, report, roam, change}
 use Rattle.model.specs.Stations.{setup, step}
 use Rattle.report_listing.specs.Listing.{frameListing}
 use Rattle.traces.specs.declared.calls.Span.{Span}
 use Rattle.traces.specs.Places.{longestLength}
 use Rattle.traces.specs.Lines.{explanationLine, traceRefusalLine}
-use Rattle.traces.specs.Records.{recordEnd, wholeRecord, fieldsOf, millisecondsAt, addressesAt, setupFields, transitionFields, frameFields, reportFields, moveFields, rsnaFields, peerLinkFields, readerFields, explainFields}
+use Rattle.traces.specs.Records.{recordEnd, wholeRecord, fieldsOf, millisecondsAt, requestersAt, setupFields, transitionFields, frameFields, reportFields, moveFields, rsnaFields, peerLinkFields, readerFields, explainFields}
 
 -- ---- the call of a record
 
@@ -25,9 +25,9 @@ use Rattle.traces.specs.Records.{recordEnd, wholeRecord, fieldsOf, milliseconds
 abbrev pub spanned : List ℕ → Span → List ℕ
 spanned s p = take (p .to - p .from) (drop (p .from) s)
 
--- so many addresses, as a record counts them in one octet
-abbrev pub listAt : List ℕ → ℕ → ℕ → List Address
-listAt s n at = take n (addressesAt s 255 at)
+-- so many requesters, as a record counts them in one octet
+abbrev pub listAt : List ℕ → ℕ → ℕ → List Listed
+listAt s n at = take n (requestersAt s 255 at)
 
 abbrev pub setupAt : List ℕ → ℕ → Result
 setupAt s at = let c = setupFields s (fieldsOf s at) in setup standard (spanned s (c .identity)) (listAt s (c .count) (c .list))
@@ -61,9 +61,9 @@ logPeerLinkAt s at = logging (millisecondsAt s (fieldsOf s at) .0) (peerLink (pe
 abbrev pub explainedAt : List ℕ → ℕ → Station → Explanation
 explainedAt s at g = let c = explainFields s (fieldsOf s at) in explanation elapsedSince (g .log) (spanned s (c .element)) (c .count) (c .position)
 
--- "`11` report reader: destination (6), length (2), octets"
+-- "`11` report reader: destination (6), length (2), octets", and "begin with the form (1), then the destination"
 abbrev pub listedAt : List ℕ → ℕ → List ℕ
-listedAt s at = let c = readerFields s (fieldsOf s at) in frameListing (c .destination) (spanned s (c .frame))
+listedAt s at = let c = readerFields s (fieldsOf s at) in frameListing (c .form) (c .destination) (spanned s (c .frame))
 
 -- ---- a trace
 

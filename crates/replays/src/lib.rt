@@ -12,7 +12,6 @@ use traces::BUFFER;
 use traces::LINE;
 use traces::ReportCall;
 use traces::Span;
-use traces::addresses_at;
 use traces::explain_call_at;
 use traces::frame_call_at;
 use traces::move_at;
@@ -23,6 +22,7 @@ use traces::reader_call_at;
 use traces::reading_at;
 use traces::record_end;
 use traces::report_call_at;
+use traces::requesters_at;
 use traces::rsna_call_at;
 use traces::setup_at;
 use traces::transition_at;
@@ -68,7 +68,7 @@ fn set_up(s: &[u8], at: usize) -> Outcome
 {
     let c = setup_at(s, at);
     let identity = c.identity;
-    let list = addresses_at(s, c.list);
+    let list = requesters_at(s, c.list);
     let n = c.count as usize;
     Station::setup(part(s, identity), &list[..n])
 }
@@ -126,7 +126,7 @@ fn roam(g: Station, s: &[u8], at: usize) -> Outcome
 {
     let c = move_at(s, at);
     let reading = c.reading;
-    let list = addresses_at(s, c.list);
+    let list = requesters_at(s, c.list);
     let n = c.count as usize;
     g.roam(reading, &list[..n])
 }
@@ -136,7 +136,7 @@ fn change_network(g: Station, s: &[u8], at: usize) -> Outcome
 {
     let c = move_at(s, at);
     let reading = c.reading;
-    let list = addresses_at(s, c.list);
+    let list = requesters_at(s, c.list);
     let n = c.count as usize;
     g.change_network(reading, &list[..n])
 }
@@ -198,7 +198,7 @@ pub fn list_at(s: &[u8], at: usize, text: &mut [u8; LISTING]) -> usize
     let c = reader_call_at(s, at);
     let destination = c.destination;
     let frame = c.frame;
-    list_report(destination, part(s, frame), text)
+    list_report(c.form, destination, part(s, frame), text)
 }
 
 // The records of a trace from the front, while they are whole.

@@ -54,16 +54,16 @@ module _ (r : Requester) (log : List Entry) (s : List ℕ) where
   no-events e = rw e
 
   pub gives-events : (s′ : List ℕ) (f : Filled) → r .events .outstanding ≡ true
-      → FramedAs (nextEvent elapsedSince log) (reportAction Event) (r .events .dialog) (eventsAt (r .events) (progressOf (r .events))) s s′ (f .wrote) (f .done) (eventsAt (r .events) (f .after))
+      → FramedAs (nextEvent elapsedSince (r .form) log) (reportAction Event) (r .events .dialog) (eventsAt (r .events) (progressOf (r .events))) s s′ (f .wrote) (f .done) (eventsAt (r .events) (f .after))
       → viewServed (gaveEvents r f) s′ ≡ giveKind elapsedSince none log s (viewRequester r) Event
   unfolding giveKind ifOutstanding giveEvents viewRequester viewEvents viewAnswer eventsAt if_then_else_
   gives-events s′ f e g =
-      let P = nextFrame (nextEvent elapsedSince log) (reportAction Event) (r .events .dialog) (room s) (eventsAt (r .events) (progressOf (r .events))) in
-      let left : viewEvents (filledEvents (r .events) f) ≡ unlessDone (P .rest) (nextEvent elapsedSince log (P .rest)) =
-      ended-events (eventsAt (r .events) (f .after)) (nextEvent elapsedSince log (eventsAt (r .events) (f .after))) (f .done) (g .ended)
-      ∙ ap (λ (q : EventRequest). unlessDone q (nextEvent elapsedSince log q)) (g .after) in
+      let P = nextFrame (nextEvent elapsedSince (r .form) log) (reportAction Event) (r .events .dialog) (room s) (eventsAt (r .events) (progressOf (r .events))) in
+      let left : viewEvents (filledEvents (r .events) f) ≡ unlessDone (P .rest) (nextEvent elapsedSince (r .form) log (P .rest)) =
+      ended-events (eventsAt (r .events) (f .after)) (nextEvent elapsedSince (r .form) log (eventsAt (r .events) (f .after))) (f .done) (g .ended)
+      ∙ ap (λ (q : EventRequest). unlessDone q (nextEvent elapsedSince (r .form) log q)) (g .after) in
       rw (e, g .wrote, g .octets)
-      (ap (λ (o : Option EventRequest). served (record { address = r .address; events = o; diagnostics = viewDiagnostics (r .diagnostics) }) (ofLength (length (P .octets))) (onto (P .octets) s)) left)
+      (ap (λ (o : Option EventRequest). served (record { address = r .address; form = r .form; events = o; diagnostics = viewDiagnostics (r .diagnostics) }) (ofLength (length (P .octets))) (onto (P .octets) s)) left)
 
 module _ (r : Requester) (len : ℕ) (identity s : List ℕ) where
   pub no-diagnostics : r .diagnostics .outstanding ≡ false
@@ -82,4 +82,4 @@ module _ (r : Requester) (len : ℕ) (identity s : List ℕ) where
       ended-diagnostics (take len identity) (d .dialog) (d .accepted .0) (left (f .first) (d .count) (d .elements)) (f .done) (g .ended)
       ∙ ap (unlessOver (d .dialog) (d .accepted .0)) (g .after) in
       rw (e, identity-octets len identity, g .wrote, g .octets)
-      (ap (λ (o : Option DiagnosticRequest). served (record { address = r .address; events = viewEvents (r .events); diagnostics = o }) (ofLength (length (P .octets))) (onto (P .octets) s)) over)
+      (ap (λ (o : Option DiagnosticRequest). served (record { address = r .address; form = r .form; events = viewEvents (r .events); diagnostics = o }) (ofLength (length (P .octets))) (onto (P .octets) s)) over)

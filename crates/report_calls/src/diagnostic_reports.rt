@@ -20,7 +20,7 @@ ghost use Rattle.report_calls.specs.Internal.{isIdentity, FilledAs};
 pub(crate) struct Answered {
     pub wrote: usize,
     pub done: bool,
-    pub first: usize,
+    pub first: u8,
 }
 
 // Is an element answered with the identity? A test, since a match of four arms where it is used costs
@@ -63,11 +63,11 @@ pub(crate) fn fill_diagnostics(
 ) -> Answered
     ensures { λ r. ⌜ FilledAs (nextDiagnostic (take len (now (identity .entry)))) (left (d .first) (d .count) (d .elements)) (now (buf .entry)) (now (buf .exit)) (r .wrote) (r .done) (left (r .first) (d .count) (d .elements)) ⌝ }
 {
-    let end = least(d.count, ELEMENT_CAPACITY);
+    let end = least(d.count as usize, ELEMENT_CAPACITY) as u8;
     let mut at: usize = 0;
     let mut i = d.first;
     while i < end {
-        let x = d.elements[i];
+        let x = d.elements[i as usize];
         let n = put_diagnostic(x, identity, len, &mut buf[at..]);
         if n == 0 {
             return Answered {

@@ -73,13 +73,13 @@ fn put_header(buf: &mut [u8], kind: Kind, dialog: u8) -> usize
     least(buf.len(), numbers::LONGEST_FRAME)
 }
 
-// An Event Report frame.
-fn frame_events(log: Log, r: EventRequest, buf: &mut [u8]) -> Filled
+// An Event Report frame, in a form.
+fn frame_events(form: u8, log: Log, r: EventRequest, buf: &mut [u8]) -> Filled
     requires { ⌜ 260 ≤ length (now buf) ⌝ }
-    ensures { λ f. ⌜ FramedAs (nextEvent elapsedSince (logged log)) (reportAction Event) (r .dialog) (eventsAt r (progressOf r)) (now (buf .entry)) (now (buf .exit)) (f .wrote) (f .done) (eventsAt r (f .after)) ⌝ }
+    ensures { λ f. ⌜ FramedAs (nextEvent elapsedSince form (logged log)) (reportAction Event) (r .dialog) (eventsAt r (progressOf r)) (now (buf .entry)) (now (buf .exit)) (f .wrote) (f .done) (eventsAt r (f .after)) ⌝ }
 {
     let end = put_header(buf, Kind::Event, r.dialog);
-    fill_events(log, r, &mut buf[3..end])
+    fill_events(form, log, r, &mut buf[3..end])
 }
 
 // A Diagnostic Report frame.
@@ -113,6 +113,7 @@ fn gave_events(r: Requester, f: Filled) -> Served
     Served {
         requester: Requester {
             address,
+            form: r.form,
             events: after_events(events, f),
             diagnostics,
         },
@@ -131,6 +132,7 @@ fn gave_diagnostics(r: Requester, f: Answered) -> Served
     Served {
         requester: Requester {
             address,
+            form: r.form,
             events,
             diagnostics: after_diagnostics(diagnostics, f),
         },
@@ -147,7 +149,7 @@ fn give_events(r: Requester, log: Log, buf: &mut [u8]) -> Served
     if !events.outstanding {
         return served(r, Answer::Nothing);
     }
-    let f = frame_events(log, events, buf);
+    let f = frame_events(r.form, log, events, buf);
     gave_events(r, f)
 }
 

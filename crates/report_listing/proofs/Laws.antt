@@ -21,10 +21,11 @@ use Rattle.octets.proofs.FrameLaws.{head-length}
 use Rattle.texts.specs.Text.{text, decimal, Puts}
 use Rattle.texts.proofs.NumberLaws.{decimal-length}
 use Rattle.texts.proofs.PutLaws.{one, at-most, nothing, both}
+use Rattle.events.specs.Times.{isForm}
 use Rattle.report_reader.specs.declared.Step.{Step}
 use Rattle.report_reader.specs.declared.Report.{Report}
-use Rattle.report_reader.specs.Reader.{stepAt, reportOf, reportKind, readReport, ElementRead, elementReadAt, Reading, reading, gathered, unread, readStep, readElements}
-use Rattle.report_reader.proofs.Laws.{Forward, goes-on, Extent, found-extent}
+use Rattle.report_reader.specs.Reader.{stepAt, cursorStep, reportOf, reportKind, readReport, ElementRead, elementReadAt, Reading, reading, gathered, unread, readStep, readElements}
+use Rattle.report_reader.proofs.Laws.{Forward, goes-on, Extent, found-extent, cursor-told}
 use Rattle.report_listing.specs.Listing.{timeField, reportElementLine, reportElementLines}
 use Rattle.report_listing.specs.Internal.{unreadMost, tailMost, reportLineMost, linesMost, stepLine, stepMost}
 
@@ -55,32 +56,36 @@ line-most s cur t x = go (t .element .logged) (x .event)
 
 -- ---- the loop over a cursor: es are handed out and written, what is left of the walk gives the rest
 
-pub record Listed (s : List ℕ) (kind : Kind) (from : ℕ) (old buf : List ℕ) (at cur : ℕ) : Type 0 where
+pub record Listed (form : ℕ) (s : List ℕ) (kind : Kind) (from : ℕ) (old buf : List ℕ) (at cur : ℕ) : Type 0 where
   pub es : List ElementRead
-  pub rest : Rest (unread (length s)) (readStep s kind) (readElements s kind) (length s - cur) (reading noRefusal cur es)
+  pub rest : Rest (unread (length s)) (readStep form s kind) (readElements form s kind) (length s - cur) (reading noRefusal cur es)
   pub front : 3 ≤ cur
   pub within : cur - 3 ≤ length s - 3
   pub same : length buf ≡ length old
-  pub puts : Puts (linesMost cur) (reportElementLines kind es) from old at buf
+  pub puts : Puts (linesMost cur) (reportElementLines form kind es) from old at buf
 
-pub listed-start : (s : List ℕ) (kind : Kind) (from : ℕ) (buf : List ℕ) → Listed s kind from buf buf from 3
+pub listed-start : (form : ℕ) (s : List ℕ) (kind : Kind) (from : ℕ) (buf : List ℕ) → Listed form s kind from buf buf from 3
 unfolding readElements pieces
-listed-start s kind from buf = record {
+listed-start form s kind from buf = record {
   es = [];
-  rest = start (unread (length s)) (readStep s kind) (length s) (length s - 3) (reading noRefusal 3 []) (omega arith);
+  rest = start (unread (length s)) (readStep form s kind) (length s) (length s - 3) (reading noRefusal 3 []) (omega arith);
   front = omega arith;
   within = omega arith;
   same = refl;
   puts = nothing from buf;
 }
 
-module _ {s : List ℕ} {kind : Kind} {from : ℕ} {old buf : List ℕ} {at cur : ℕ} (l : Listed s kind from old buf at cur) (fine : readElements s kind .refusal .number ≡ 0) where
-  pub listed-end : length s ≤ cur → Puts (linesMost (length s)) (reportElementLines kind (readElements s kind .elements)) from old at buf
+module _ {form : ℕ} {s : List ℕ} {kind : Kind} {from : ℕ} {old buf : List ℕ} {at cur : ℕ} (l : Listed form s kind from old buf at cur) (told : isForm form ≡ true)
+    (fine : readElements form s kind .refusal .number ≡ 0) where
+  pub listed-end : length s ≤ cur → Puts (linesMost (length s)) (reportElementLines form kind (readElements form s kind .elements)) from old at buf
   listed-end end =
-      let e : reading noRefusal cur (l .es) ≡ readElements s kind = done (l .rest) (stop-end 0 cur (length s) refl end) in
+      let e : reading noRefusal cur (l .es) ≡ readElements form s kind = done (l .rest) (stop-end 0 cur (length s) refl end) in
       rw (← e) (at-most (linesMost (length s)) (omega (arith, l .within)) (l .puts))
 
-  module _ (inside : cur < length s) (t : Step) (is : t ≡ stepAt s kind cur) where
+  module _ (inside : cur < length s) (t : Step) (is : t ≡ cursorStep form s kind cur) where
+    stands : t ≡ stepAt form s kind cur
+    stands = is ∙ cursor-told form told s kind cur
+
     goes : unread (length s) (reading noRefusal cur (l .es)) ≡ true
     goes = go-on 0 cur (length s) refl inside
 
@@ -93,34 +98,34 @@ module _ {s : List ℕ} {kind : Kind} {from : ℕ} {old buf : List ℕ} {at cur 
         go true e = eqb-true (t .refusal .number) 0 e
         go false e =
             let no = eqb-false (t .refusal .number) 0 e in
-            let stops : reading (t .refusal) 0 [] ≡ readStep s kind (reading noRefusal cur (l .es)) = rw (← is, e) in
+            let stops : reading (t .refusal) 0 [] ≡ readStep form s kind (reading noRefusal cur (l .es)) = rw (← stands, e) in
             let all = last (l .rest) goes (omega arith) stops (stop-refused (t .refusal .number) 0 (length s) no) in
             absurd (no (ap (λ (w : Reading). w .refusal .number) all ∙ fine))
 
     on : Forward s cur t
-    on = goes-on s kind cur t is accepted
+    on = goes-on form s kind cur t is accepted
 
-    pub listed-next : {n : ℕ} {y : List ℕ} → length y ≡ length buf → Puts (stepMost t) (stepLine s kind t) at buf n y → Listed s kind from old y n (t .next .at)
+    pub listed-next : {n : ℕ} {y : List ℕ} → length y ≡ length buf → Puts (stepMost t) (stepLine form s kind t) at buf n y → Listed form s kind from old y n (t .next .at)
     unfolding readStep gathered stepLine stepMost if_then_else_
     listed-next {n} {y} keeps q = go (t .found) refl
       where
-        go : (b : Bool) → t .found ≡ b → Listed s kind from old y n (t .next .at)
+        go : (b : Bool) → t .found ≡ b → Listed form s kind from old y n (t .next .at)
         go true f =
-            let x : ElementRead = elementReadAt s t in
-            let e : reading noRefusal (t .next .at) (l .es ++ (x ∷ [])) ≡ readStep s kind (reading noRefusal cur (l .es)) = rw (← is, eq-eqb (t .refusal .number) 0 accepted, f) in
+            let x : ElementRead = elementReadAt form s t in
+            let e : reading noRefusal (t .next .at) (l .es ++ (x ∷ [])) ≡ readStep form s kind (reading noRefusal cur (l .es)) = rw (← stands, eq-eqb (t .refusal .number) 0 accepted, f) in
             let g = on in
-            let p : Puts (reportLineMost (t .element .logged)) (reportElementLine kind x) at buf n y = rw f at q in
+            let p : Puts (reportLineMost (t .element .logged)) (reportElementLine form kind x) at buf n y = rw f at q in
             record {
               es = l .es ++ (x ∷ []);
               rest = again (length s - t .next .at) (l .rest) goes (omega (arith, g .on)) e;
               front = omega (arith, g .on, l .front);
               within = omega (arith, g .within);
               same = keeps ∙ l .same;
-              puts = rw (pieces-snoc (λ (r : ElementRead). reportElementLine kind r) 0 (l .es) x)
-                  (at-most (linesMost (t .next .at)) (omega (arith, g .on, l .front, line-most s cur t (found-extent s kind cur t is f))) (both (l .puts) p));
+              puts = rw (pieces-snoc (λ (r : ElementRead). reportElementLine form kind r) 0 (l .es) x)
+                  (at-most (linesMost (t .next .at)) (omega (arith, g .on, l .front, line-most s cur t (found-extent form s kind cur t is f))) (both (l .puts) p));
             }
         go false f =
-            let e : reading noRefusal (t .next .at) (l .es) ≡ readStep s kind (reading noRefusal cur (l .es)) = rw (← is, eq-eqb (t .refusal .number) 0 accepted, f) in
+            let e : reading noRefusal (t .next .at) (l .es) ≡ readStep form s kind (reading noRefusal cur (l .es)) = rw (← stands, eq-eqb (t .refusal .number) 0 accepted, f) in
             let g = on in
             let p : Puts 0 [] at buf n y = rw f at q in
             record {
@@ -134,22 +139,25 @@ module _ {s : List ℕ} {kind : Kind} {from : ℕ} {old buf : List ℕ} {at cur 
 
 -- ---- a frame that is not refused has at most 2,304 octets, and the cursor's walk over it is not refused either
 
-pub record Readable (s : List ℕ) (kind : Kind) : Type 0 where
+pub record Readable (form : ℕ) (s : List ℕ) (kind : Kind) : Type 0 where
+  pub told : isForm form ≡ true
   pub few : length s ≤ longestFrame
-  pub fine : readElements s kind .refusal .number ≡ 0
+  pub fine : readElements form s kind .refusal .number ≡ 0
 
-abbrev IsReadable : List ℕ → Report → Type 0
-IsReadable s r = r .refusal .number ≡ 0 → Readable s (r .kind)
+abbrev IsReadable : ℕ → List ℕ → Report → Type 0
+IsReadable form s r = r .refusal .number ≡ 0 → Readable form s (r .kind)
 
-read-readable : (destination s : List ℕ) → IsReadable s (readReport destination s)
+read-readable : (form : ℕ) (destination s : List ℕ) → IsReadable form s (readReport form destination s)
 unfolding readReport reportOf
-read-readable destination s =
+read-readable form destination s =
+    let P : Report → Type 0 = IsReadable form s in
     let kind : Kind = reportKind s in
-    either (IsReadable s) _ _ _ (λ _ z. absurd (omega arith))
-    (λ _. either (IsReadable s) _ _ _ (λ p z. absurd (eqb-false (frameCause s (reportAction kind)) 0 (not-true _ p) z))
+    either P _ _ _ (λ _ z. absurd (omega arith))
+    (λ t. either P _ _ _ (λ _ z. absurd (omega arith))
+    (λ _. either P _ _ _ (λ p z. absurd (eqb-false (frameCause s (reportAction kind)) 0 (not-true _ p) z))
     (λ p. let few = head-length s (reportAction kind) (eqb-true (frameCause s (reportAction kind)) 0 (not-false _ p)) in
-    either (IsReadable s) _ _ _ (λ q z. absurd (eqb-false (readElements s kind .refusal .number) 0 (not-true _ q) z))
-    (λ q _. record { few = few; fine = eqb-true (readElements s kind .refusal .number) 0 (not-false _ q) })))
+    either P _ _ _ (λ q z. absurd (eqb-false (readElements form s kind .refusal .number) 0 (not-true _ q) z))
+    (λ q _. record { told = not-false _ t; few = few; fine = eqb-true (readElements form s kind .refusal .number) 0 (not-false _ q) }))))
 
-pub readable : (destination s : List ℕ) (r : Report) → r ≡ readReport destination s → IsReadable s r
-readable destination s r is = rw is (read-readable destination s)
+pub readable : (form : ℕ) (destination s : List ℕ) (r : Report) → r ≡ readReport form destination s → IsReadable form s r
+readable form destination s r is = rw is (read-readable form destination s)

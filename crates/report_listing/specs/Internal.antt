@@ -11,9 +11,12 @@ use Rattle.report_listing.specs.Listing.{reportElementLine}
 
 -- ---- how many octets a text has at most
 
--- an event, and the number of octets that are kept unread
+-- its time fields, an event with them, and the number of octets that are kept unread
+abbrev pub timesMost : ℕ
+timesMost = 66
+
 abbrev pub eventMost : ℕ
-eventMost = 220
+eventMost = 240
 
 abbrev pub unreadMost : ℕ
 unreadMost = 26
@@ -35,8 +38,8 @@ linesMost at = 14 * (at - 3)
 
 -- ---- the line of what stands at a cursor
 
-unfoldable pub stepLine : List ℕ → Kind → Step → List ℕ
-stepLine s kind t = if t .found then reportElementLine kind (elementReadAt s t) else []
+unfoldable pub stepLine : ℕ → List ℕ → Kind → Step → List ℕ
+stepLine form s kind t = if t .found then reportElementLine form kind (elementReadAt form s t) else []
 
 unfoldable pub stepMost : Step → ℕ
 stepMost t = if t .found then reportLineMost (t .element .logged) else 0

@@ -1,5 +1,8 @@
 // Report frames: the listing that the program `report` prints, whole, into an array that has room for
 // every one of them.
+use events::DRAFT;
+use events::Times;
+use events::is_form;
 use events::rsna_events::RSN_LENGTH;
 use octets::Kind;
 use octets::Refusal;
@@ -7,6 +10,7 @@ use octets::address_at;
 use octets::causes;
 use octets::least;
 use octets::numbers;
+use octets::octet;
 use octets::pair;
 use octets::pair_at;
 use octets::put;
@@ -38,10 +42,11 @@ ghost use lib.ListN.{length, getD};
 ghost use Rattle.octets.specs.Fields.{pairAt};
 ghost use Rattle.laws.specs.Buffers.{wrote};
 ghost use Rattle.texts.specs.Text.{Puts, written, Within};
+ghost use Rattle.events.specs.Times.{isForm};
 ghost use Rattle.report_reader.specs.Decoders.{decoded};
 ghost use Rattle.report_reader.specs.Reader.{elementRead, readElements};
-ghost use Rattle.report_listing.specs.Listing.{timeField, dateText, clockText, timeText, colonText, signalsText, transitionText, vendorText, rsnText, rsnaText, peerLinkText, eventText, unreadText, eventTail, tailText, headText, reportElementLine, reportElementLines, frameListing, inputListing, reportListingMost};
-ghost use Rattle.report_listing.specs.Internal.{eventMost, unreadMost, headMost, tailMost, reportLineMost, linesMost, stepLine, stepMost};
+ghost use Rattle.report_listing.specs.Listing.{timeField, dateText, clockText, timeText, bareText, publishedText, timesText, colonText, signalsText, transitionText, vendorText, rsnText, rsnaText, peerLinkText, eventText, unreadText, eventTail, tailText, headText, reportElementLine, reportElementLines, frameListing, inputListing, reportListingMost};
+ghost use Rattle.report_listing.specs.Internal.{timesMost, eventMost, unreadMost, headMost, tailMost, reportLineMost, linesMost, stepLine, stepMost};
 
 // What the longest listing has at most: 52 octets for the first line, and 14 for each octet that the
 // elements take of a frame.
@@ -98,6 +103,35 @@ fn put_time(buf: &mut [u8], at: usize, time: [u8; 9]) -> usize
     put_clock(buf, next, time[4], time[3], time[2], pair(time[0], time[1]))
 }
 
+// Octets behind a name, as they stand.
+fn put_bare(buf: &mut [u8], at: usize, name: &[u8], o: &[u8]) -> usize
+    ensures { λ r. ⌜ Puts (length (now (name .entry)) + 2 * length (now (o .entry))) (bareText (now (name .entry)) (now (o .entry))) at (now (buf .entry)) r (now (buf .exit)) ⌝ }
+{
+    let next = put(buf, at, name);
+    put_hexes(buf, next, b"", o)
+}
+
+fn put_published(buf: &mut [u8], at: usize, t: Times) -> usize
+    ensures { λ r. ⌜ Puts timesMost (publishedText t) at (now (buf .entry)) r (now (buf .exit)) ⌝ }
+{
+    let tsf = t.tsf;
+    let offset = t.offset;
+    let error = t.error;
+    let next = put_bare(buf, at, b" tsf ", &tsf);
+    let next = put_bare(buf, next, b" offset ", &offset);
+    put_bare(buf, next, b" error ", &error)
+}
+
+fn put_times(buf: &mut [u8], at: usize, form: u8, t: Times) -> usize
+    ensures { λ r. ⌜ Puts timesMost (timesText form t) at (now (buf .entry)) r (now (buf .exit)) ⌝ }
+{
+    if form == DRAFT {
+        let time = t.time;
+        return put_time(buf, at, time);
+    }
+    put_published(buf, at, t)
+}
+
 // Octets behind a name, with colons between them.
 fn put_colons(buf: &mut [u8], at: usize, name: &[u8], o: &[u8]) -> usize
     requires { ⌜ 0 < length (now o) ⌝ }
@@ -116,14 +150,14 @@ fn put_signals(buf: &mut [u8], at: usize, signals: [u8; 4]) -> usize
     put_octet(buf, next, b" target-rsni ", signals[3])
 }
 
-fn put_transition(buf: &mut [u8], at: usize, e: TransitionReport) -> usize
-    ensures { λ r. ⌜ Puts eventMost (transitionText e) at (now (buf .entry)) r (now (buf .exit)) ⌝ }
+fn put_transition(buf: &mut [u8], at: usize, form: u8, e: TransitionReport) -> usize
+    ensures { λ r. ⌜ Puts eventMost (transitionText form e) at (now (buf .entry)) r (now (buf .exit)) ⌝ }
 {
-    let time = e.time;
+    let times = e.times;
     let source = e.source;
     let target = e.target;
     let signals = e.signals;
-    let next = put_time(buf, at, time);
+    let next = put_times(buf, at, form, times);
     let next = put_colons(buf, next, b" source ", &source);
     let next = put_colons(buf, next, b" target ", &target);
     let next = put_pair(buf, next, b" transition ", e.took.0);
@@ -151,19 +185,18 @@ fn put_rsn(buf: &mut [u8], at: usize, rsn: [u8; RSN_LENGTH], size: usize) -> usi
         return at;
     }
     let n = least(size, RSN_LENGTH);
-    let next = put(buf, at, b" rsn ");
-    put_hexes(buf, next, b"", &rsn[..n])
+    put_bare(buf, at, b" rsn ", &rsn[..n])
 }
 
-fn put_rsna(buf: &mut [u8], at: usize, e: RsnaReport) -> usize
-    ensures { λ r. ⌜ Puts eventMost (rsnaText e) at (now (buf .entry)) r (now (buf .exit)) ⌝ }
+fn put_rsna(buf: &mut [u8], at: usize, form: u8, e: RsnaReport) -> usize
+    ensures { λ r. ⌜ Puts eventMost (rsnaText form e) at (now (buf .entry)) r (now (buf .exit)) ⌝ }
 {
-    let time = e.time;
+    let times = e.times;
     let target = e.target;
     let authentication = e.authentication;
     let method = e.method;
     let rsn = e.rsn;
-    let next = put_time(buf, at, time);
+    let next = put_times(buf, at, form, times);
     let next = put_colons(buf, next, b" target ", &target);
     let next = put_colons(buf, next, b" authentication ", &authentication);
     let next = put_octet(buf, next, b" eap ", method[0]);
@@ -179,13 +212,13 @@ fn three(o: [u8; 3]) -> usize
     (pair_at(&o, 0) as usize) + 65536 * size(&o, 2)
 }
 
-fn put_peer_link(buf: &mut [u8], at: usize, e: PeerLinkReport) -> usize
-    ensures { λ r. ⌜ Puts eventMost (peerLinkText e) at (now (buf .entry)) r (now (buf .exit)) ⌝ }
+fn put_peer_link(buf: &mut [u8], at: usize, form: u8, e: PeerLinkReport) -> usize
+    ensures { λ r. ⌜ Puts eventMost (peerLinkText form e) at (now (buf .entry)) r (now (buf .exit)) ⌝ }
 {
-    let time = e.time;
+    let times = e.times;
     let peer = e.peer;
     let connection = e.connection;
-    let next = put_time(buf, at, time);
+    let next = put_times(buf, at, form, times);
     let next = put_colons(buf, next, b" peer ", &peer);
     let next = put_octet(buf, next, b" class ", e.class);
     let next = put_octet(buf, next, b" channel ", e.channel);
@@ -195,13 +228,13 @@ fn put_peer_link(buf: &mut [u8], at: usize, e: PeerLinkReport) -> usize
 }
 
 // The event of a type, from its octets.
-fn put_event(buf: &mut [u8], at: usize, ty: u8, o: &[u8]) -> usize
-    ensures { λ r. ⌜ Puts eventMost (eventText (decoded ty (now (o .entry)))) at (now (buf .entry)) r (now (buf .exit)) ⌝ }
+fn put_event(buf: &mut [u8], at: usize, form: u8, ty: u8, o: &[u8]) -> usize
+    ensures { λ r. ⌜ Puts eventMost (eventText form (decoded form ty (now (o .entry)))) at (now (buf .entry)) r (now (buf .exit)) ⌝ }
 {
     match ty {
-        0 => put_transition(buf, at, transition_in(o)),
-        1 => put_rsna(buf, at, rsna_in(o)),
-        2..=255 => put_peer_link(buf, at, peer_link_in(o)),
+        0 => put_transition(buf, at, form, transition_in(form, o)),
+        1 => put_rsna(buf, at, form, rsna_in(form, o)),
+        2..=255 => put_peer_link(buf, at, form, peer_link_in(form, o)),
     }
 }
 
@@ -216,11 +249,11 @@ fn put_unread(buf: &mut [u8], at: usize, ty: u8, n: usize) -> usize
 }
 
 // What an event report has behind its status.
-fn put_event_tail(buf: &mut [u8], at: usize, e: Element, o: &[u8]) -> usize
-    ensures { λ r. ⌜ Puts (tailMost (e .logged)) (eventTail (elementRead e (now (o .entry)) .event) e) at (now (buf .entry)) r (now (buf .exit)) ⌝ }
+fn put_event_tail(buf: &mut [u8], at: usize, form: u8, e: Element, o: &[u8]) -> usize
+    ensures { λ r. ⌜ Puts (tailMost (e .logged)) (eventTail form (elementRead form e (now (o .entry)) .event) e) at (now (buf .entry)) r (now (buf .exit)) ⌝ }
 {
     if e.logged {
-        return put_event(buf, at, e.ty, o);
+        return put_event(buf, at, form, e.ty, o);
     }
     if e.status == numbers::SUCCESSFUL {
         return put_unread(buf, at, e.ty, e.length);
@@ -228,11 +261,11 @@ fn put_event_tail(buf: &mut [u8], at: usize, e: Element, o: &[u8]) -> usize
     at
 }
 
-fn put_tail(buf: &mut [u8], at: usize, kind: Kind, e: Element, o: &[u8]) -> usize
-    ensures { λ r. ⌜ Puts (tailMost (e .logged)) (tailText kind (elementRead e (now (o .entry)))) at (now (buf .entry)) r (now (buf .exit)) ⌝ }
+fn put_tail(buf: &mut [u8], at: usize, form: u8, kind: Kind, e: Element, o: &[u8]) -> usize
+    ensures { λ r. ⌜ Puts (tailMost (e .logged)) (tailText form kind (elementRead form e (now (o .entry)))) at (now (buf .entry)) r (now (buf .exit)) ⌝ }
 {
     match kind {
-        Kind::Event => put_event_tail(buf, at, e, o),
+        Kind::Event => put_event_tail(buf, at, form, e, o),
         Kind::Diagnostic => put_size(buf, at, b" subs ", e.subs),
     }
 }
@@ -245,50 +278,50 @@ fn put_head(buf: &mut [u8], at: usize, kind: Kind, e: Element) -> usize
 }
 
 // The line of an element, with the octets behind its status.
-fn put_element(buf: &mut [u8], at: usize, kind: Kind, e: Element, o: &[u8]) -> usize
-    ensures { λ r. ⌜ Puts (reportLineMost (e .logged)) (reportElementLine kind (elementRead e (now (o .entry)))) at (now (buf .entry)) r (now (buf .exit)) ⌝ }
+fn put_element(buf: &mut [u8], at: usize, form: u8, kind: Kind, e: Element, o: &[u8]) -> usize
+    ensures { λ r. ⌜ Puts (reportLineMost (e .logged)) (reportElementLine form kind (elementRead form e (now (o .entry)))) at (now (buf .entry)) r (now (buf .exit)) ⌝ }
 {
     let next = put_head(buf, at, kind, e);
-    let next = put_tail(buf, next, kind, e, o);
+    let next = put_tail(buf, next, form, kind, e, o);
     put(buf, next, b"\n")
 }
 
 // ---- a frame
 
 // The line of what stands at a cursor; elements of another ID have none.
-fn put_step(buf: &mut [u8], at: usize, s: &[u8], kind: Kind, step: Step) -> usize
+fn put_step(buf: &mut [u8], at: usize, form: u8, s: &[u8], kind: Kind, step: Step) -> usize
     requires { ⌜ (step .found ≡ true → step .rest + step .element .length ≤ length (now s)) ⌝ }
-    ensures { λ r. ⌜ Puts (stepMost step) (stepLine (now (s .entry)) kind step) at (now (buf .entry)) r (now (buf .exit)) ⌝ }
+    ensures { λ r. ⌜ Puts (stepMost step) (stepLine form (now (s .entry)) kind step) at (now (buf .entry)) r (now (buf .exit)) ⌝ }
 {
     if step.found {
         let element = step.element;
         let rest = step.rest;
         let end = rest + element.length;
-        return put_element(buf, at, kind, element, &s[rest..end]);
+        return put_element(buf, at, form, kind, element, &s[rest..end]);
     }
     at
 }
 
 // The lines of all elements of a frame that is not refused.
-fn put_elements(buf: &mut [u8], from: usize, s: &[u8], kind: Kind) -> usize
-    requires { ⌜ readElements (now s) kind .refusal .number ≡ 0 ⌝ }
-    ensures { λ r. ⌜ Puts (linesMost (length (now (s .entry)))) (reportElementLines kind (readElements (now (s .entry)) kind .elements)) from (now (buf .entry)) r (now (buf .exit)) ⌝ }
+fn put_elements(buf: &mut [u8], from: usize, form: u8, s: &[u8], kind: Kind) -> usize
+    requires { ⌜ (isForm form ≡ true) × (readElements form (now s) kind .refusal .number ≡ 0) ⌝ }
+    ensures { λ r. ⌜ Puts (linesMost (length (now (s .entry)))) (reportElementLines form kind (readElements form (now (s .entry)) kind .elements)) from (now (buf .entry)) r (now (buf .exit)) ⌝ }
 {
     let mut at = from;
     let mut cursor = Cursor::first();
     while cursor.at < s.len() {
-        let step = cursor.next(s, kind);
-        at = put_step(buf, at, s, kind, step);
+        let step = cursor.next(form, s, kind);
+        at = put_step(buf, at, form, s, kind, step);
         let next = step.next;
         cursor = next;
     }
     at
 }
 
-fn put_listing(buf: &mut [u8], destination: [u8; 6], s: &[u8]) -> usize
-    ensures { λ n. ⌜ Puts reportListingMost (frameListing destination (now (s .entry))) 0 (now (buf .entry)) n (now (buf .exit)) ⌝ }
+fn put_listing(buf: &mut [u8], form: u8, destination: [u8; 6], s: &[u8]) -> usize
+    ensures { λ n. ⌜ Puts reportListingMost (frameListing form destination (now (s .entry))) 0 (now (buf .entry)) n (now (buf .exit)) ⌝ }
 {
-    let report = read_report(destination, s);
+    let report = read_report(form, destination, s);
     let refusal = report.refusal;
     if refusal.number != 0 {
         return put_refusal(buf, 0, refusal);
@@ -302,27 +335,31 @@ fn put_listing(buf: &mut [u8], destination: [u8; 6], s: &[u8]) -> usize
         report.dialog,
         report.count,
     );
-    put_elements(buf, next, s, kind)
+    put_elements(buf, next, form, s, kind)
 }
 
-// Reads a report frame for a destination and lists it; the text's length.
-pub fn list_report(destination: [u8; 6], s: &[u8], buf: &mut [u8; LISTING]) -> usize
-    ensures { λ n. ⌜ wrote n (now (buf .exit)) ≡ written (frameListing destination (now (s .entry))) (now (buf .entry)) ⌝ }
+// Reads a report frame of a form for a destination and lists it; the text's length.
+pub fn list_report(form: u8, destination: [u8; 6], s: &[u8], buf: &mut [u8; LISTING]) -> usize
+    ensures { λ n. ⌜ wrote n (now (buf .exit)) ≡ written (frameListing form destination (now (s .entry))) (now (buf .entry)) ⌝ }
     ensures { λ n. ⌜ Within reportListingMost n (now (buf .exit)) ⌝ }
 {
-    put_listing(buf, destination, s)
+    put_listing(buf, form, destination, s)
 }
 
 fn put_input(buf: &mut [u8], input: &[u8]) -> usize
     ensures { λ n. ⌜ Puts reportListingMost (inputListing (now (input .entry))) 0 (now (buf .entry)) n (now (buf .exit)) ⌝ }
 {
-    if input.len() < 6 {
+    let form = octet(input, 0);
+    if !is_form(form) {
+        return put_refusal(buf, 0, Refusal::new(causes::BAD_REQUESTER_LIST, 0));
+    }
+    if input.len() < 7 {
         return put_refusal(buf, 0, Refusal::new(causes::BAD_FRAME_LENGTH, 0));
     }
-    put_listing(buf, address_at(input, 0), &input[6..])
+    put_listing(buf, form, address_at(input, 1), &input[7..])
 }
 
-// Lists the input of the program `report`: six octets of destination, then the frame.
+// Lists the input of the program `report`: the form, six octets of destination, then the frame.
 pub fn list_input(input: &[u8], buf: &mut [u8; LISTING]) -> usize
     ensures { λ n. ⌜ wrote n (now (buf .exit)) ≡ written (inputListing (now (input .entry))) (now (buf .entry)) ⌝ }
     ensures { λ n. ⌜ Within reportListingMost n (now (buf .exit)) ⌝ }

@@ -1,20 +1,23 @@
--- Laws of the decoders: what stands behind so many octets, and that a transition is read of the first 30.
+-- Laws of the decoders: what stands behind so many octets; so many from the front; and that fields are read of as many as they have.
 -- Assumes nothing.
 use Prim.Native.Nat.{ℕ, zero, suc, _+_, _-_, _≤_, _<_, min}
 use mathlib.Core.Path.{_≡_, refl, sym, ap, _∙_}
 use mathlib.Core.Bool.{Bool, true, false}
-use mathlib.Core.List.{List, [], _∷_, _++_}
-use native.Mathlib.Nat.{zero-add}
+use mathlib.Core.List.{List, [], _∷_, _++_, append-nil}
+use native.Mathlib.Nat.{zero-add, add-zero}
 use native.Mathlib.Omega.{arith}
-use lib.Dec.{leb}
-use lib.ListN.{length, getD, take, drop, length-drop, drop-of-length-le}
+use lib.Dec.{leb, eqb}
+use lib.ListN.{length, getD, take, drop, length-append, length-drop, drop-of-length-le}
 use lib.Seq.{take-all, getD-drop}
 use borrow.Author.Tests.{leb-true, leb-false}
+use Rattle.laws.specs.Choice.{if_then_else_}
 use Rattle.laws.specs.Buffers.{WrittenBuffer, wrote, putAt}
 use Rattle.laws.proofs.Buffers.{put-at-fits}
 use Rattle.octets.specs.Fields.{octetsAt}
-use Rattle.octets.proofs.PlaceLaws.{octets-length, octet-within}
-use Rattle.report_reader.specs.Decoders.{transitionIn}
+use Rattle.octets.proofs.PlaceLaws.{octets-stand}
+use Rattle.events.specs.declared.times.Times.{Times}
+use Rattle.events.specs.Transitions.{transitionLength, sourceOf, targetOf, tookOf, reasonOf, resultOf, signalsOf}
+use Rattle.report_reader.specs.Decoders.{timesIn, bodyIn, transitionIn}
 
 pub rest-behind : (o : List ℕ) (n from : ℕ) → from ≡ min n (length o) → take (length o - from) (drop from o) ≡ drop n o
 rest-behind o n from e = take-all (length o - from) (drop from o) (omega (arith, length-drop from o)) ∙ go (leb n (length o)) refl
@@ -36,23 +39,15 @@ module _ (x y : List ℕ) (m : ℕ) (same : (k : ℕ) → k < m → getD x k 0 �
   octets-same zero k h = refl
   octets-same (suc n) k h = rw (same k (omega arith), octets-same n (k + 1) (omega arith))
 
-  same-behind : (n k : ℕ) → n + k < m → getD (drop n x) k 0 ≡ getD (drop n y) k 0
-  same-behind n k h = getD-drop n x k 0 ∙ same (n + k) h ∙ sym (getD-drop n y k 0)
+-- ---- so many octets from the front: as they stand, or fewer with zeros behind them
 
-module _ (x y : List ℕ) (same : (k : ℕ) → k < 30 → getD x k 0 ≡ getD y k 0) where
-  body-same : (k : ℕ) → k < 21 → getD (drop 9 x) k 0 ≡ getD (drop 9 y) k 0
-  body-same k h = same-behind x y 30 same 9 k (omega arith)
-
-  pub transition-same : transitionIn x ≡ transitionIn y
-  unfolding transitionIn
-  transition-same =
-      let f : (n k : ℕ) → k + n ≤ 21 → octetsAt (drop 9 x) k n ≡ octetsAt (drop 9 y) k n = octets-same (drop 9 x) (drop 9 y) 21 body-same in
-      rw (octets-same x y 30 same 9 0 (omega arith), f 6 0 (omega arith), f 6 6 (omega arith), f 4 17 (omega arith), body-same 12 (omega arith), body-same 13 (omega arith), body-same 14 (omega arith), body-same 15 (omega arith), body-same 16 (omega arith))
-
--- ---- so it is read of the first octets, and of fewer with zeros behind them
-
-pub transition-first : (o : List ℕ) → transitionIn (take 30 (drop 0 o)) ≡ transitionIn o
-transition-first o = transition-same _ o (λ k h. octet-within o 30 0 k h ∙ ap (λ (i : ℕ). getD o i 0) (zero-add k))
+octet-of : (s : List ℕ) (n at k : ℕ) → k < n → getD (octetsAt s at n) k 0 ≡ getD s (at + k) 0
+unfolding octetsAt
+octet-of s zero at k h = absurd (omega arith)
+octet-of s (suc n) at zero h = ap (λ (i : ℕ). getD s i 0) (sym (add-zero at))
+octet-of s (suc n) at (suc k) h =
+    let e : at + 1 + k ≡ at + suc k = omega arith in
+    octet-of s n (at + 1) k (omega arith) ∙ ap (λ (i : ℕ). getD s i 0) e
 
 zeros : (n at k : ℕ) → getD (octetsAt [] at n) k 0 ≡ 0
 unfolding octetsAt
@@ -69,8 +64,27 @@ padded-same (x ∷ o) [] h (suc k) =
     ap (λ (r : List ℕ). getD (o ++ r) k 0) (sym e) ∙ padded-same o [] (λ i. refl) k
 padded-same (x ∷ o) (y ∷ z) h (suc k) = padded-same o z (λ i. h (suc i)) k
 
-pub transition-padded : (o z w : List ℕ) (n : ℕ) → z ≡ octetsAt [] 0 30 → length o < 30 → wrote n w ≡ putAt o 0 z → transitionIn w ≡ transitionIn o
-transition-padded o z w n e h does =
-    let size : length z ≡ 30 = ap length e ∙ octets-length [] 30 0 in
+pub first-padded : (o z w : List ℕ) (n m : ℕ) → length z ≡ m → z ≡ octetsAt [] 0 m → length o < m → wrote n w ≡ putAt o 0 z → w ≡ octetsAt o 0 m
+first-padded o z w n m size e h does =
     let is : w ≡ o ++ drop (length o) z = ap (λ (b : WrittenBuffer). b .octets) (does ∙ put-at-fits o 0 z (omega (arith, size, h))) in
-    transition-same w o (λ k _. rw (is, e) (padded-same o (octetsAt [] 0 30) (zeros 30 0) k))
+    let long : length w ≡ m = ap length is ∙ length-append o (drop (length o) z) ∙ omega (arith, length-drop (length o) z) in
+    sym (octets-stand w 0 m w [] long (sym (append-nil w)))
+    ∙ octets-same w o m (λ k _. rw (is, e) (padded-same o (octetsAt [] 0 m) (zeros m 0) k)) m 0 (omega arith)
+
+-- ---- what is read of so many octets from the front is what is read of all
+
+first-octet : (o : List ℕ) (n k : ℕ) → k < n → getD (octetsAt o 0 n) k 0 ≡ getD o k 0
+first-octet o n k h = octet-of o n 0 k h ∙ ap (λ (i : ℕ). getD o i 0) (zero-add k)
+
+pub first-octets : (o : List ℕ) (n m k : ℕ) → k + m ≤ n → octetsAt (octetsAt o 0 n) k m ≡ octetsAt o k m
+first-octets o n = octets-same (octetsAt o 0 n) o n (first-octet o n)
+
+-- a transition, by its time fields and the first octets of its body
+pub transition-read : (form : ℕ) (o : List ℕ) (times : Times) (body : List ℕ) → times ≡ timesIn form o → body ≡ octetsAt (bodyIn form o) 0 transitionLength
+    → record { times = times; source = sourceOf body; target = targetOf body; took = record { 0 = tookOf body }; reason = reasonOf body; result = resultOf body; signals = signalsOf body } ≡ transitionIn form o
+unfolding transitionIn
+transition-read form o times body t b =
+    let whole = bodyIn form o in
+    let f : (m k : ℕ) → k + m ≤ 21 → octetsAt (octetsAt whole 0 21) k m ≡ octetsAt whole k m = first-octets whole 21 in
+    let e : (k : ℕ) → k < 21 → getD (octetsAt whole 0 21) k 0 ≡ getD whole k 0 = first-octet whole 21 in
+    rw (t, b, f 6 0 (omega arith), f 6 6 (omega arith), f 4 17 (omega arith), e 12 (omega arith), e 13 (omega arith), e 14 (omega arith), e 15 (omega arith), e 16 (omega arith))

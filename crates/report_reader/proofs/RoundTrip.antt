@@ -1,11 +1,11 @@
--- The round trip: what is told in a report frame is read back, element by element and in whole frames.
+-- The round trip, for every form: what is told in a report frame is read back, element by element and in whole frames.
 -- Assumes nothing.
 use Prim.Native.Nat.{ℕ, _+_, _-_, _≤_, _<_}
 use mathlib.Core.Path.{_≡_, refl, sym, ap, _∙_}
-use mathlib.Core.Bool.{true, false}
+use mathlib.Core.Bool.{Bool, true, false}
 use mathlib.Core.List.{List, [], _∷_, _++_, map, map-append, append-assoc, append-nil}
 use mathlib.Core.Option.{some}
-use lib.Dec.{ltb}
+use lib.Dec.{eqb, ltb}
 use lib.ListN.{length, getD, drop, length-append, length-map}
 use borrow.Author.Tests.{le-ltb, ne-eqb, eq-eqb}
 use native.Mathlib.Omega.{arith}
@@ -17,7 +17,7 @@ use Rattle.laws.proofs.Parts.{stands-at, stands-first, stands-length, stands-be
 use Rattle.laws.proofs.Pieces.{Each, each-all, along}
 use Rattle.octets.specs.declared.numbers.Kind.{Kind}
 use Rattle.octets.specs.declared.numbers.Kind.the-variants.{Event, Diagnostic}
-use Rattle.octets.specs.Numbers.{reportAction, reportId, successful, longestFrame}
+use Rattle.octets.specs.Numbers.{category, reportAction, reportId, successful, longestFrame}
 use Rattle.octets.specs.Refusals.{noRefusal}
 use Rattle.octets.specs.Fields.{octetsAt}
 use Rattle.octets.specs.Addresses.{isGroup}
@@ -30,14 +30,16 @@ use Rattle.subelements.specs.declared.Subelements.{Subelements}
 use Rattle.subelements.specs.Subelements.{tables, noFilter, wholeStep, subelementStep, walk}
 use Rattle.subelements.proofs.Tables.{no-length}
 use Rattle.subelements.specs.Subelements.{moreSubelements as moreSubs}
-use Rattle.events.specs.Loggings.{eventType, eventTime, eventBody, goodRsnElement, entryWith, Logging, EventLengths}
-use Rattle.events.proofs.LoggingLaws.{time-nine, body-back}
+use Rattle.events.specs.Times.{isForm, timeLength, draft, publishedFields}
+use Rattle.events.specs.Log.{timeOf}
+use Rattle.events.specs.Loggings.{eventType, eventTimes, eventBody, goodRsnElement, entryWith, Logging, entryFor, EventLengths}
+use Rattle.events.proofs.LoggingLaws.{time-length, body-back}
 use Rattle.reports.specs.Reports.{reportElement, eventElement}
 use Rattle.report_reader.specs.Decoders.{ReportedEvent}
-use Rattle.report_reader.specs.Reader.{plainElement, loggedElement, foundStep, plainStep, loggedStep, reportLength, isEventLength, typedStep, eventStep, walkedStep, diagnosticStep, ownReportStep, stepAt, elementRead, reportOf, readReport, reading, gathered, unread, readStep, readElements}
+use Rattle.report_reader.specs.Reader.{plainElement, loggedElement, foundStep, plainStep, loggedStep, reportLength, isEventLength, goodTimeAt, typedStep, eventStep, walkedStep, diagnosticStep, ownReportStep, stepAt, elementRead, reportOf, readReport, reading, gathered, unread, readStep, readElements}
 use Rattle.report_reader.specs.Contents.{Content, statusOnly, loggedEvent, keptUnread, withSubelements, Valid, contentOctets, contentFrame, contentRead, ReportRoundTrip}
 use Rattle.report_reader.proofs.DecodersBack.{decoded-back, typed, length-fits}
-use Rattle.report_reader.proofs.Laws.{short-event}
+use Rattle.report_reader.proofs.Laws.{time-least, short-event}
 
 -- ---- subelements that are walked for their edges
 
@@ -77,7 +79,7 @@ subelements-back s at end ps r h ends =
 
 -- ---- an element that stands at a position
 
-module _ (s : List ℕ) (kind : Kind) (at token ty status : ℕ) (rest r : List ℕ) (h : drop at s ≡ reportElement kind token ty status rest ++ r) where
+module _ (form : ℕ) (s : List ℕ) (kind : Kind) (at token ty status : ℕ) (rest r : List ℕ) (h : drop at s ≡ reportElement kind token ty status rest ++ r) where
   abbrev o : List ℕ
   o = reportElement kind token ty status rest
 
@@ -95,11 +97,11 @@ module _ (s : List ℕ) (kind : Kind) (at token ty status : ℕ) (rest r : List 
   unfolding reportElement
   token-there = stands-at s at o r h 2 0
 
-  ty-there : getD s (at + 3) 0 ≡ ty
+  pub ty-there : getD s (at + 3) 0 ≡ ty
   unfolding reportElement
   ty-there = stands-at s at o r h 3 0
 
-  status-there : getD s (at + 4) 0 ≡ status
+  pub status-there : getD s (at + 4) 0 ≡ status
   unfolding reportElement
   status-there = stands-at s at o r h 4 0
 
@@ -107,7 +109,7 @@ module _ (s : List ℕ) (kind : Kind) (at token ty status : ℕ) (rest r : List 
   unfolding reportElement
   end-there = omega arith
 
-  own-there : stepAt s kind at ≡ ownReportStep s kind at (length body)
+  pub own-there : stepAt form s kind at ≡ ownReportStep form s kind at (length body)
   unfolding stepAt reportElement if_then_else_
   own-there =
       let l = stands-length s at o r h (omega arith) in
@@ -127,113 +129,122 @@ module _ (s : List ℕ) (kind : Kind) (at token ty status : ℕ) (rest r : List 
 
 -- ---- one element
 
-module _ (s : List ℕ) (at : ℕ) where
-  kept-event : (n : ℕ) → getD s (at + 4) 0 ≡ 0 → tables ≤ getD s (at + 3) 0 → eventStep s at n ≡ plainStep s at n 0
+module _ (form : ℕ) (s : List ℕ) (at : ℕ) where
+  kept-event : (n : ℕ) → getD s (at + 4) 0 ≡ 0 → tables ≤ getD s (at + 3) 0 → eventStep form s at n ≡ plainStep s at n 0
   unfolding eventStep if_then_else_
   kept-event n e other = rw (e, le-ltb (getD s (at + 3) 0) tables other)
 
-  logged-event : (n ty : ℕ) → (n ≡ 3 → ⊥) → getD s (at + 4) 0 ≡ 0 → getD s (at + 3) 0 ≡ ty → ltb ty tables ≡ true → isEventLength s at n ty ≡ true → goodTime (timeAt s (at + 5)) ≡ true
-      → eventStep s at n ≡ loggedStep s at n
+  logged-event : (n ty : ℕ) → (n ≡ 3 → ⊥) → getD s (at + 4) 0 ≡ 0 → getD s (at + 3) 0 ≡ ty → ltb ty tables ≡ true → isEventLength form s at n ty ≡ true → goodTimeAt form s (at + 5) ≡ true
+      → eventStep form s at n ≡ loggedStep s at n
   unfolding eventStep typedStep if_then_else_
   logged-event n ty m e f t k good = rw (e, f, t, ne-eqb n 3 m, k, good)
 
-  own-event : (n : ℕ) → 3 ≤ n → getD s (at + 4) 0 ≤ 4 → ownReportStep s Event at n ≡ eventStep s at n
+  pub own-event : (n : ℕ) → 3 ≤ n → getD s (at + 4) 0 ≤ 4 → ownReportStep form s Event at n ≡ eventStep form s at n
   unfolding ownReportStep if_then_else_
   own-event n few low = rw (le-ltb n 3 few, le-ltb 4 (getD s (at + 4) 0) low)
 
 -- what is found at a position: the step, and what it hands out
-record Found (s : List ℕ) (kind : Kind) (at : ℕ) (x : Content kind) : Type 0 where
-  step : stepAt s kind at ≡ foundStep (contentRead kind x .element) (at + 5) (at + length (contentOctets kind x))
-  behind : octetsAt s (at + 5) (contentRead kind x .element .length) ≡ contentRead kind x .behind
-  decodes : elementRead (contentRead kind x .element) (contentRead kind x .behind) ≡ contentRead kind x
+pub record Found (form : ℕ) (s : List ℕ) (kind : Kind) (at : ℕ) (x : Content kind) : Type 0 where
+  pub step : stepAt form s kind at ≡ foundStep (contentRead form kind x .element) (at + 5) (at + length (contentOctets form kind x))
+  pub behind : octetsAt s (at + 5) (contentRead form kind x .element .length) ≡ contentRead form kind x .behind
+  pub decodes : elementRead form (contentRead form kind x .element) (contentRead form kind x .behind) ≡ contentRead form kind x
 
-module _ (s : List ℕ) (at : ℕ) (r : List ℕ) where
-  bare-event : (token ty status : ℕ) → status ≤ 4 → drop at s ≡ contentOctets Event (statusOnly token ty status) ++ r → Found s Event at (statusOnly token ty status)
+-- the time fields that stand at a position are good, where the nine octets are
+time-good : (form : ℕ) (s : List ℕ) (at : ℕ) (x : Logging) (r : List ℕ) → EventLengths (x .event) → goodTime (eventTimes (x .event) .time) ≡ true
+    → drop at s ≡ timeOf form (entryFor x) ++ r → goodTimeAt form s at ≡ true
+unfolding goodTimeAt entryWith if_then_else_
+time-good form s at x r w good = go (eqb form draft)
+  where
+    go : (b : Bool) → drop at s ≡ (if b then eventTimes (x .event) .time else publishedFields (eventTimes (x .event))) ++ r → (if b then goodTime (timeAt s at) else true) ≡ true
+    go true h = rw (octets-stand s at 9 (eventTimes (x .event) .time) r (w .times .time) h) good
+    go false h = refl
+
+module _ (form : ℕ) (s : List ℕ) (at : ℕ) (r : List ℕ) where
+  bare-event : (token ty status : ℕ) → status ≤ 4 → drop at s ≡ contentOctets form Event (statusOnly token ty status) ++ r → Found form s Event at (statusOnly token ty status)
   unfolding contentOctets octetsAt if_then_else_
   bare-event token ty status few h = record {
     step =
-        own-there s Event at token ty status [] r h
-        ∙ own-event s at 3 (omega arith) (omega (arith, status-there s Event at token ty status [] r h))
-        ∙ short-event s at refl
-        ∙ plain-there s Event at token ty status [] r h 0;
+        own-there form s Event at token ty status [] r h
+        ∙ own-event form s at 3 (omega arith) (omega (arith, status-there form s Event at token ty status [] r h))
+        ∙ short-event form s at refl
+        ∙ plain-there form s Event at token ty status [] r h 0;
     behind = refl;
     decodes = refl;
   }
 
-  kept-back : (token ty : ℕ) (o : List ℕ) → tables ≤ ty → drop at s ≡ contentOctets Event (keptUnread token ty o) ++ r → Found s Event at (keptUnread token ty o)
+  kept-back : (token ty : ℕ) (o : List ℕ) → tables ≤ ty → drop at s ≡ contentOctets form Event (keptUnread token ty o) ++ r → Found form s Event at (keptUnread token ty o)
   unfolding contentOctets if_then_else_
   kept-back token ty o other h = record {
     step =
-        own-there s Event at token ty 0 o r h
-        ∙ own-event s at (length (token ∷ ty ∷ 0 ∷ o)) (omega arith) (omega (arith, status-there s Event at token ty 0 o r h))
-        ∙ kept-event s at (length (token ∷ ty ∷ 0 ∷ o)) (status-there s Event at token ty 0 o r h) (omega (arith, ty-there s Event at token ty 0 o r h, other))
-        ∙ plain-there s Event at token ty 0 o r h 0;
-    behind = behind-there s Event at token ty 0 o r h;
+        own-there form s Event at token ty 0 o r h
+        ∙ own-event form s at (length (token ∷ ty ∷ 0 ∷ o)) (omega arith) (omega (arith, status-there form s Event at token ty 0 o r h))
+        ∙ kept-event form s at (length (token ∷ ty ∷ 0 ∷ o)) (status-there form s Event at token ty 0 o r h) (omega (arith, ty-there form s Event at token ty 0 o r h, other))
+        ∙ plain-there form s Event at token ty 0 o r h 0;
+    behind = behind-there form s Event at token ty 0 o r h;
     decodes = refl;
   }
 
-  -- nine octets of time, and a body
-  logged-back : (token ty : ℕ) (time body : List ℕ) → length time ≡ 9 → ltb ty tables ≡ true → goodTime time ≡ true → drop at s ≡ reportElement Event token ty 0 (time ++ body) ++ r
-      → isEventLength s at (reportLength (length body)) ty ≡ true
-      → stepAt s Event at ≡ foundStep (loggedElement token ty 0 (length (time ++ body))) (at + 5) (at + length (reportElement Event token ty 0 (time ++ body)))
+  -- time fields, and a body
+  logged-back : (token ty : ℕ) (time body : List ℕ) → length time ≡ timeLength form → ltb ty tables ≡ true → drop at s ≡ reportElement Event token ty 0 (time ++ body) ++ r
+      → isEventLength form s at (reportLength form (length body)) ty ≡ true → goodTimeAt form s (at + 5) ≡ true
+      → stepAt form s Event at ≡ foundStep (loggedElement token ty 0 (length (time ++ body))) (at + 5) (at + length (reportElement Event token ty 0 (time ++ body)))
   unfolding loggedStep
-  logged-back token ty time body nine tabled good h long =
+  logged-back token ty time body long tabled h fits good =
       let o : List ℕ = time ++ body in
-      let l : length o ≡ 9 + length body = length-append time body ∙ omega (arith, nine) in
-      let n : length (token ∷ ty ∷ 0 ∷ o) ≡ reportLength (length body) = omega (arith, l) in
+      let l : length o ≡ timeLength form + length body = length-append time body ∙ omega (arith, long) in
+      let n : length (token ∷ ty ∷ 0 ∷ o) ≡ reportLength form (length body) = omega (arith, l) in
       let m : length (token ∷ ty ∷ 0 ∷ o) - 3 ≡ length o = omega arith in
-      let t : timeAt s (at + 5) ≡ time = octets-stand s (at + 5) 9 time (body ++ r) nine (rest-there s Event at token ty 0 o r h ∙ append-assoc time body r) in
-      own-there s Event at token ty 0 o r h
-      ∙ own-event s at (length (token ∷ ty ∷ 0 ∷ o)) (omega arith) (omega (arith, status-there s Event at token ty 0 o r h))
-      ∙ logged-event s at (length (token ∷ ty ∷ 0 ∷ o)) ty (λ z. absurd (omega (arith, z, n))) (status-there s Event at token ty 0 o r h) (ty-there s Event at token ty 0 o r h) tabled (rw n long) (rw t good)
-      ∙ rw (m, token-there s Event at token ty 0 o r h, ty-there s Event at token ty 0 o r h, status-there s Event at token ty 0 o r h, end-there s Event at token ty 0 o r h)
+      own-there form s Event at token ty 0 o r h
+      ∙ own-event form s at (length (token ∷ ty ∷ 0 ∷ o)) (omega arith) (omega (arith, status-there form s Event at token ty 0 o r h))
+      ∙ logged-event form s at (length (token ∷ ty ∷ 0 ∷ o)) ty (λ z. absurd (omega (arith, z, l, time-least form))) (status-there form s Event at token ty 0 o r h) (ty-there form s Event at token ty 0 o r h) tabled (rw n fits) good
+      ∙ rw (m, token-there form s Event at token ty 0 o r h, ty-there form s Event at token ty 0 o r h, status-there form s Event at token ty 0 o r h, end-there form s Event at token ty 0 o r h)
 
-  event-back : (token : ℕ) (x : Logging) → EventLengths (x .event) → goodTime (eventTime (x .event)) ≡ true → goodRsnElement (x .event) ≡ true
-      → drop at s ≡ contentOctets Event (loggedEvent token x) ++ r → Found s Event at (loggedEvent token x)
+  event-back : (token : ℕ) (x : Logging) → EventLengths (x .event) → goodTime (eventTimes (x .event) .time) ≡ true → goodRsnElement (x .event) ≡ true
+      → drop at s ≡ contentOctets form Event (loggedEvent token x) ++ r → Found form s Event at (loggedEvent token x)
   unfolding contentOctets eventElement entryWith if_then_else_
   event-back token x w timed good h =
       let ty : ℕ = eventType (x .event) in
-      let time : List ℕ = eventTime (x .event) in
+      let time : List ℕ = timeOf form (entryFor x) in
       let body : List ℕ = eventBody (x .reading) (x .event) in
-      let nine = time-nine (x .event) w in
+      let long = time-length form (x .stamp) (x .reading) (x .event) w in
       let there : drop at s ≡ reportElement Event token ty 0 (time ++ body) ++ r =
       h ∙ ap (λ (b : List ℕ). reportElement Event token ty 0 (time ++ b) ++ r) (body-back (x .stamp) (x .reading) (x .event)) in
-      let behind-time : drop (at + 14) s ≡ body ++ r =
-      stands-behind s (at + 5) time (body ++ r) (rest-there s Event at token ty 0 (time ++ body) r there ∙ append-assoc time body r) (at + 14) (omega (arith, nine)) in
-      let long = length-fits s at r (x .reading) (x .event) w good behind-time (reportLength (length body)) refl in
+      let time-there : drop (at + 5) s ≡ time ++ (body ++ r) = rest-there form s Event at token ty 0 (time ++ body) r there ∙ append-assoc time body r in
+      let behind-time : drop (at + 5 + timeLength form) s ≡ body ++ r = stands-behind s (at + 5) time (body ++ r) time-there (at + 5 + timeLength form) (omega (arith, long)) in
+      let fits = length-fits form s at r (x .reading) (x .event) w good behind-time (reportLength form (length body)) refl in
       record {
         step =
-            logged-back token ty time body nine (typed (x .event)) timed there long
+            logged-back token ty time body long (typed (x .event)) there fits (time-good form s (at + 5) x (body ++ r) w timed time-there)
             ∙ ap (λ (b : List ℕ). foundStep (loggedElement token ty 0 (length (time ++ body))) (at + 5) (at + length (reportElement Event token ty 0 (time ++ b)))) (sym (body-back (x .stamp) (x .reading) (x .event)));
-        behind = behind-there s Event at token ty 0 (time ++ body) r there;
-        decodes = ap (λ (e : ReportedEvent). record { element = loggedElement token ty 0 (length (time ++ body)); behind = time ++ body; event = some e }) (decoded-back (x .reading) (x .event) w);
+        behind = behind-there form s Event at token ty 0 (time ++ body) r there;
+        decodes = ap (λ (e : ReportedEvent). record { element = loggedElement token ty 0 (length (time ++ body)); behind = time ++ body; event = some e }) (decoded-back form (x .stamp) (x .reading) (x .event) w);
       }
 
   listed-back : (token ty status : ℕ) (ps : List Subelement) → status ≤ 4 → drop at s ≡ reportElement Diagnostic token ty status (subelements ps) ++ r
-      → Found s Diagnostic at (withSubelements token ty status ps)
+      → Found form s Diagnostic at (withSubelements token ty status ps)
   unfolding contentOctets ownReportStep diagnosticStep walkedStep if_then_else_ atSubs
   listed-back token ty status ps few h =
       let o : List ℕ = subelements ps in
       record {
         step =
-            own-there s Diagnostic at token ty status o r h
+            own-there form s Diagnostic at token ty status o r h
             ∙ rw (
-              status-there s Diagnostic at token ty status o r h,
+              status-there form s Diagnostic at token ty status o r h,
               le-ltb (length (token ∷ ty ∷ status ∷ o)) 3 (omega arith),
               le-ltb 4 status few,
-              subelements-back s (at + 5) (at + 2 + length (token ∷ ty ∷ status ∷ o)) ps r (rest-there s Diagnostic at token ty status o r h) (omega arith),
+              subelements-back s (at + 5) (at + 2 + length (token ∷ ty ∷ status ∷ o)) ps r (rest-there form s Diagnostic at token ty status o r h) (omega arith),
             ) refl
-            ∙ plain-there s Diagnostic at token ty status o r h (length ps);
-        behind = behind-there s Diagnostic at token ty status o r h;
+            ∙ plain-there form s Diagnostic at token ty status o r h (length ps);
+        behind = behind-there form s Diagnostic at token ty status o r h;
         decodes = refl;
       }
 
-  bare-back : (kind : Kind) (token ty status : ℕ) → status ≤ 4 → drop at s ≡ contentOctets kind (statusOnly token ty status) ++ r → Found s kind at (statusOnly token ty status)
+  bare-back : (kind : Kind) (token ty status : ℕ) → status ≤ 4 → drop at s ≡ contentOctets form kind (statusOnly token ty status) ++ r → Found form s kind at (statusOnly token ty status)
   unfolding contentOctets subelements pieces if_then_else_
   bare-back Event token ty status few h = bare-event token ty status few h
   bare-back Diagnostic token ty status few h = let f = listed-back token ty status [] few h in record { step = f .step; behind = f .behind; decodes = refl }
 
-  content-back : (kind : Kind) (x : Content kind) → Valid kind x → drop at s ≡ contentOctets kind x ++ r → Found s kind at x
+  pub content-back : (kind : Kind) (x : Content kind) → Valid kind x → drop at s ≡ contentOctets form kind x ++ r → Found form s kind at x
   unfolding contentOctets
   content-back kind (statusOnly token ty status) may h = bare-back kind token ty status may h
   content-back kind (loggedEvent token x) may h = event-back token x (may .0) (may .1) (may .2) h
@@ -242,44 +253,52 @@ module _ (s : List ℕ) (at : ℕ) (r : List ℕ) where
 
 -- ---- whole frames
 
-content-some : (kind : Kind) (x : Content kind) → 0 < length (contentOctets kind x)
-unfolding contentOctets eventElement reportElement
-content-some kind (statusOnly token ty status) = omega arith
-content-some kind (loggedEvent token x) = omega arith
-content-some kind (keptUnread token ty o) = omega arith
-content-some kind (withSubelements token ty status ps) = omega arith
+pub report-of : (form : ℕ) → isForm form ≡ true → (kind : Kind) (dialog : ℕ) (o d : List ℕ) → isGroup d ≡ false → length o + 3 ≤ longestFrame
+    → let f = category ∷ reportAction kind ∷ dialog ∷ o in readReport form d f ≡ reportOf kind dialog (readElements form f kind)
+unfolding readReport if_then_else_
+report-of form is kind dialog o d single fits =
+    rw (is, single, head-kind dialog o reportAction refl kind, head-accepted dialog o (reportAction kind) (omega arith))
 
-module _ (kind : Kind) (dialog : ℕ) (xs : List (Content kind)) where
+pub content-some : (form : ℕ) (kind : Kind) (x : Content kind) → 0 < length (contentOctets form kind x)
+unfolding contentOctets eventElement reportElement
+content-some form kind (statusOnly token ty status) = omega arith
+content-some form kind (loggedEvent token x) = omega arith
+content-some form kind (keptUnread token ty o) = omega arith
+content-some form kind (withSubelements token ty status ps) = omega arith
+
+module _ (form : ℕ) (kind : Kind) (dialog : ℕ) (xs : List (Content kind)) where
   abbrev frame : List ℕ
-  frame = contentFrame kind dialog xs
+  frame = contentFrame form kind dialog xs
 
   abbrev Left : ℕ → List (Content kind) → Type 0
-  Left at front = Rest (unread (length frame)) (readStep frame kind) (readElements frame kind) (length frame - at) (reading noRefusal at (map (contentRead kind) front))
+  Left at front = Rest (unread (length frame)) (readStep form frame kind) (readElements form frame kind) (length frame - at) (reading noRefusal at (map (contentRead form kind) front))
 
-  left : (front : List (Content kind)) (x : Content kind) (at : ℕ) (r : List ℕ) → Valid kind x → drop at frame ≡ contentOctets kind x ++ r → at + length (contentOctets kind x) ≤ length frame
-      → Left at front → Left (at + length (contentOctets kind x)) (front ++ (x ∷ []))
+  left : (front : List (Content kind)) (x : Content kind) (at : ℕ) (r : List ℕ) → Valid kind x → drop at frame ≡ contentOctets form kind x ++ r → at + length (contentOctets form kind x) ≤ length frame
+      → Left at front → Left (at + length (contentOctets form kind x)) (front ++ (x ∷ []))
   unfolding readStep gathered if_then_else_
   left front x at r may h fits l =
-      let f = content-back frame at r kind x may h in
-      again _ l (go-on 0 at (length frame) refl (omega (arith, content-some kind x))) (omega (arith, content-some kind x))
-      (rw (f .step, f .behind, f .decodes, map-append (contentRead kind) front (x ∷ [])))
+      let f = content-back form frame at r kind x may h in
+      again _ l (go-on 0 at (length frame) refl (omega (arith, content-some form kind x))) (omega (arith, content-some form kind x))
+      (rw (f .step, f .behind, f .decodes, map-append (contentRead form kind) front (x ∷ [])))
 
   module _ (may : All (Valid kind) xs) where
-    elements-back : readElements frame kind ≡ reading noRefusal (length frame) (map (contentRead kind) xs)
+    pub elements-back : readElements form frame kind ≡ reading noRefusal (length frame) (map (contentRead form kind) xs)
     unfolding readElements
     elements-back =
         sym (done
-        (along (λ _ x. contentOctets kind x) frame (length frame) (λ _ x. Valid kind x) Left left xs [] 3 0 [] refl (each-all (Valid kind) [] xs may) (sym (append-nil _)) (omega arith)
+        (along (λ _ x. contentOctets form kind x) frame (length frame) (λ _ x. Valid kind x) Left left xs [] 3 0 [] refl (each-all (Valid kind) [] xs may) (sym (append-nil _)) (omega arith)
         (start _ _ (length frame) _ _ (omega arith)))
         (stop-end 0 (length frame) (length frame) refl (omega arith)))
 
     -- and the report has as many elements as were told
-    report-back : (d : List ℕ) → isGroup d ≡ false → length frame ≤ longestFrame → readReport d frame ≡ record { refusal = noRefusal; kind = kind; dialog = dialog; count = length xs }
-    unfolding readReport reportOf if_then_else_
-    report-back d single fits =
-        let o : List ℕ = pieces (λ _ x. contentOctets kind x) 0 xs in
-        rw (single, head-kind dialog o reportAction refl kind, head-accepted dialog o (reportAction kind) (omega arith), elements-back, length-map xs (contentRead kind))
+    report-back : isForm form ≡ true → (d : List ℕ) → isGroup d ≡ false → length frame ≤ longestFrame
+        → readReport form d frame ≡ record { refusal = noRefusal; kind = kind; dialog = dialog; count = length xs }
+    unfolding reportOf if_then_else_
+    report-back is d single fits =
+        let o : List ℕ = pieces (λ _ x. contentOctets form kind x) 0 xs in
+        report-of form is kind dialog o d single (omega arith) ∙ rw (elements-back, length-map xs (contentRead form kind))
 
 -- What is told in a frame is read back of it.
 pub report-round-trip : ReportRoundTrip
-report-round-trip kind dialog xs may fits d single = record { report = report-back kind dialog xs may d single fits; elements = elements-back kind dialog xs may }
+report-round-trip form is kind dialog xs may fits d single =
+    record { report = report-back form kind dialog xs may is d single fits; elements = elements-back form kind dialog xs may }

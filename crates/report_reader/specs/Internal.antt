@@ -1,5 +1,5 @@
 -- Nobody has to believe this file: it has what the contracts of functions inside this crate speak of.
--- What the validation of a frame sees of a step, and the step by that and the frame: proofs/Laws.antt has stepOf s at (verdictOf (stepAt s kind at)) ≡ stepAt s kind at.
+-- What the validation of a frame sees of a step, and the step by that and the frame: proofs/Laws.antt has stepOf s at (verdictOf (stepAt form s kind at)) ≡ stepAt form s kind at.
 -- Assumes nothing.
 use Prim.Native.Nat.{ℕ, _+_, _-_, _≤_}
 use mathlib.Core.Bool.{false}

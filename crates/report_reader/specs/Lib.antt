@@ -2,3 +2,4 @@ pub mod Decoders
 pub mod Reader
 pub mod Internal
 pub mod Contents
+pub mod Forms

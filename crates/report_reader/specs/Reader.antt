@@ -1,4 +1,5 @@
--- Document 01: "Reading a report frame, given its destination: 11, 1, 2, then each element 4, 5, 17, then 14 or 7."
+-- Document 01: "Reading a report frame, given its destination: 11, 1, 2, then each element 4, 5, 17, then 14 or 7."; document 02 (g): it is
+-- told the form of the time fields, 0 draft or 1 published.
 -- Assumes nothing.
 use Prim.Native.Nat.{ℕ, _+_, _-_}
 use mathlib.Core.Bool.{Bool, true, false, not, _&&_, _||_}
@@ -12,7 +13,7 @@ use Rattle.octets.specs.declared.numbers.Kind.{Kind}
 use Rattle.octets.specs.declared.numbers.Kind.the-variants.{Event as EventKind, Diagnostic}
 use Rattle.octets.specs.declared.refusals.Refusal.{Refusal}
 use Rattle.octets.specs.Numbers.{reportAction, reportId, successful, cancelled}
-use Rattle.octets.specs.Refusals.{refused, noRefusal, elementPastEnd, shortElement, badReportBody, badTime, groupDestination}
+use Rattle.octets.specs.Refusals.{refused, noRefusal, elementPastEnd, shortElement, badReportBody, badTime, groupDestination, badRequesterList}
 use Rattle.octets.specs.Fields.{octetsAt}
 use Rattle.octets.specs.Addresses.{isGroup}
 use Rattle.octets.specs.Frames.{frameKind, frameCause}
@@ -20,6 +21,7 @@ use Rattle.octets.specs.Elements.{pieceEnd}
 use Rattle.octets.specs.Times.{goodTime, timeAt}
 use Rattle.subelements.specs.declared.Subelements.{Subelements}
 use Rattle.subelements.specs.Subelements.{tables, walk}
+use Rattle.events.specs.Times.{isForm, timeLength, byForm}
 use Rattle.events.specs.Transitions.{transitionLength}
 use Rattle.events.specs.RsnaEvents.{methodOffset, rsnLength, rsnaLength}
 use Rattle.events.specs.PeerLinks.{peerLinkLength}
@@ -63,34 +65,39 @@ loggedStep s at n =
 unfoldable pub bareStep : List ℕ → ℕ → ℕ → Step
 bareStep s at n = if eqb n 3 then plainStep s at n 0 else refusedStep badReportBody at
 
--- the octets of a report body with an event whose body has so many: token, type, status, nine of time, and they
-abbrev pub reportLength : ℕ → ℕ
-reportLength n = 12 + n
+-- the octets of a report body with an event whose body has so many: token, type, status, the time fields in a form, and they
+abbrev pub reportLength : ℕ → ℕ → ℕ
+reportLength form n = 3 + timeLength form + n
 
 -- of an RSNA event, without its RSN element and with it
-abbrev pub isRsnaLength : ℕ → ℕ → Bool
-isRsnaLength first n = eqb n (reportLength (rsnaLength first)) || eqb n (reportLength (rsnaLength first + rsnLength))
+abbrev pub isRsnaLength : ℕ → ℕ → ℕ → Bool
+isRsnaLength form first n = eqb n (reportLength form (rsnaLength first)) || eqb n (reportLength form (rsnaLength first + rsnLength))
 
 -- has the body of an element of n octets the length of its event type? An RSNA event's goes by the first octet of its EAP method
-unfoldable pub isEventLength : List ℕ → ℕ → ℕ → ℕ → Bool
-isEventLength s at n ty =
-    if eqb ty 0 then eqb n (reportLength transitionLength)
-    else if eqb ty 1 then isRsnaLength (getD s (at + 14 + methodOffset) 0) n
-    else eqb n (reportLength peerLinkLength)
+unfoldable pub isEventLength : ℕ → List ℕ → ℕ → ℕ → ℕ → Bool
+isEventLength form s at n ty =
+    if eqb ty 0 then eqb n (reportLength form transitionLength)
+    else if eqb ty 1 then isRsnaLength form (getD s (at + 5 + timeLength form + methodOffset) 0) n
+    else eqb n (reportLength form peerLinkLength)
 
--- "event type 0 Successful not 3 or 33" (17), and so for each type with a table; then its time (14)
-unfoldable pub typedStep : List ℕ → ℕ → ℕ → Step
-typedStep s at n =
+-- the draft's time has its rule (14); the published fields are "carried unread"
+unfoldable pub goodTimeAt : ℕ → List ℕ → ℕ → Bool
+goodTimeAt form s at = byForm form (goodTime (timeAt s at)) true
+
+-- "event type 0 Successful not 3 or 33" (17), and so for each type with a table; document 02 (g): "and a body of the other form's length
+-- with 17"; then its time (14)
+unfoldable pub typedStep : ℕ → List ℕ → ℕ → ℕ → Step
+typedStep form s at n =
     if eqb n 3 then plainStep s at n 0
-    else if not (isEventLength s at n (getD s (at + 3) 0)) then refusedStep badReportBody at
-    else if not (goodTime (timeAt s (at + 5))) then refusedStep badTime at
+    else if not (isEventLength form s at n (getD s (at + 3) 0)) then refusedStep badReportBody at
+    else if not (goodTimeAt form s (at + 5)) then refusedStep badTime at
     else loggedStep s at n
 
 -- "For status 0 of other event types the rest is kept unread."
-unfoldable pub eventStep : List ℕ → ℕ → ℕ → Step
-eventStep s at n =
+unfoldable pub eventStep : ℕ → List ℕ → ℕ → ℕ → Step
+eventStep form s at n =
     if not (eqb (getD s (at + 4) 0) successful) then bareStep s at n
-    else if ltb (getD s (at + 3) 0) tables then typedStep s at n
+    else if ltb (getD s (at + 3) 0) tables then typedStep form s at n
     else plainStep s at n 0
 
 -- "A Diagnostic Report has subelements instead, with any status.": their edges (7)
@@ -102,23 +109,27 @@ walkedStep s at n w =
 unfoldable pub diagnosticStep : List ℕ → ℕ → ℕ → Step
 diagnosticStep s at n = walkedStep s at n (walk s tables (at + 5) (at + 2 + n))
 
-abbrev pub kindStep : Kind → List ℕ → ℕ → ℕ → Step
-kindStep EventKind s at n = eventStep s at n
-kindStep Diagnostic s at n = diagnosticStep s at n
+abbrev pub kindStep : ℕ → Kind → List ℕ → ℕ → ℕ → Step
+kindStep form EventKind s at n = eventStep form s at n
+kindStep form Diagnostic s at n = diagnosticStep s at n
 
 -- "Body under 3" (5), "Report status over 4" (17)
-unfoldable pub ownReportStep : List ℕ → Kind → ℕ → ℕ → Step
-ownReportStep s kind at n =
+unfoldable pub ownReportStep : ℕ → List ℕ → Kind → ℕ → ℕ → Step
+ownReportStep form s kind at n =
     if ltb n 3 then refusedStep shortElement at
     else if ltb cancelled (getD s (at + 4) 0) then refusedStep badReportBody at
-    else kindStep kind s at n
+    else kindStep form kind s at n
 
 -- "Element header or body passes the end" (4); "only its own element ID counts .. others are passed over"
-unfoldable pub stepAt : List ℕ → Kind → ℕ → Step
-stepAt s kind at =
+unfoldable pub stepAt : ℕ → List ℕ → Kind → ℕ → Step
+stepAt form s kind at =
     if eqb (pieceEnd s at (length s)) 0 then refusedStep elementPastEnd at
     else if not (eqb (getD s at 0) (reportId kind)) then skippedStep (pieceEnd s at (length s))
-    else ownReportStep s kind at (getD s (at + 1) 0)
+    else ownReportStep form s kind at (getD s (at + 1) 0)
+
+-- what the cursor hands out. Document 02 (g): "It refuses a form number other than 0 or 1 with 15 (a reader before all else)"
+unfoldable pub cursorStep : ℕ → List ℕ → Kind → ℕ → Step
+cursorStep form s kind at = if not (isForm form) then refusedStep badRequesterList 0 else stepAt form s kind at
 
 -- ---- the elements of a frame, as the cursor hands them out, from the front to the end or to the first refusal
 
@@ -128,11 +139,11 @@ pub record ElementRead : Type 0 where
   pub behind : List ℕ
   pub event : Option ReportedEvent
 
-abbrev pub elementRead : Element → List ℕ → ElementRead
-elementRead e o = record { element = e; behind = o; event = if e .logged then some (decoded (e .ty) o) else none }
+abbrev pub elementRead : ℕ → Element → List ℕ → ElementRead
+elementRead form e o = record { element = e; behind = o; event = if e .logged then some (decoded form (e .ty) o) else none }
 
-abbrev pub elementReadAt : List ℕ → Step → ElementRead
-elementReadAt s t = elementRead (t .element) (octetsAt s (t .rest) (t .element .length))
+abbrev pub elementReadAt : ℕ → List ℕ → Step → ElementRead
+elementReadAt form s t = elementRead form (t .element) (octetsAt s (t .rest) (t .element .length))
 
 pub record Reading : Type 0 where
   pub refusal : Refusal
@@ -143,20 +154,20 @@ abbrev pub reading : Refusal → ℕ → List ElementRead → Reading
 reading refusal at elements = record { refusal = refusal; at = at; elements = elements }
 
 -- behind one more element; a refused reading has nothing else
-unfoldable pub gathered : List ℕ → Reading → Step → Reading
-gathered s w t =
+unfoldable pub gathered : ℕ → List ℕ → Reading → Step → Reading
+gathered form s w t =
     if not (eqb (t .refusal .number) 0) then reading (t .refusal) 0 []
-    else if t .found then reading noRefusal (t .next .at) (w .elements ++ (elementReadAt s t ∷ []))
+    else if t .found then reading noRefusal (t .next .at) (w .elements ++ (elementReadAt form s t ∷ []))
     else reading noRefusal (t .next .at) (w .elements)
 
 abbrev pub unread : ℕ → Reading → Bool
 unread end w = eqb (w .refusal .number) 0 && ltb (w .at) end
 
-unfoldable pub readStep : List ℕ → Kind → Reading → Reading
-readStep s kind w = gathered s w (stepAt s kind (w .at))
+unfoldable pub readStep : ℕ → List ℕ → Kind → Reading → Reading
+readStep form s kind w = gathered form s w (stepAt form s kind (w .at))
 
-unfoldable pub readElements : List ℕ → Kind → Reading
-readElements s kind = repeatWhile (length s) (unread (length s)) (readStep s kind) (reading noRefusal 3 [])
+unfoldable pub readElements : ℕ → List ℕ → Kind → Reading
+readElements form s kind = repeatWhile (length s) (unread (length s)) (readStep form s kind) (reading noRefusal 3 [])
 
 -- ---- a frame
 
@@ -174,9 +185,10 @@ reportOf kind dialog w =
 abbrev pub reportKind : List ℕ → Kind
 reportKind s = frameKind s (reportAction Diagnostic)
 
--- "11, 1, 2, then each element": "Group destination" (11), then the frame's head
-unfoldable pub readReport : List ℕ → List ℕ → Report
-readReport destination s =
-    if isGroup destination then refusedReport groupDestination 0
+-- its form (15), then "11, 1, 2, then each element": "Group destination" (11), then the frame's head
+unfoldable pub readReport : ℕ → List ℕ → List ℕ → Report
+readReport form destination s =
+    if not (isForm form) then refusedReport badRequesterList 0
+    else if isGroup destination then refusedReport groupDestination 0
     else if not (eqb (frameCause s (reportAction (reportKind s))) 0) then refusedReport (frameCause s (reportAction (reportKind s))) 0
-    else reportOf (reportKind s) (getD s 2 0) (readElements s (reportKind s))
+    else reportOf (reportKind s) (getD s 2 0) (readElements form s (reportKind s))

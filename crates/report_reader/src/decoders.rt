@@ -1,11 +1,17 @@
-// The fields of an event, from the octets behind a report's status: nine of time, and the event's body.
-// One decoder for each kind, total: octets past the end are 0.
+// The fields of an event, from the octets behind a report's status: its time fields in a form (0 draft,
+// any other: published), and the event's body. One decoder for each kind, total: octets past the end are 0.
+use events::DRAFT;
+use events::DRAFT_LENGTH;
+use events::PUBLISHED_LENGTH;
+use events::Times;
 use events::peer_links;
 use events::rsna_events;
 use events::rsna_events::METHOD_OFFSET;
 use events::rsna_events::RSN_LENGTH;
 use events::rsna_events::rsna_length;
+use events::time_length;
 use events::transitions;
+use events::transitions::TRANSITION_LENGTH;
 use octets::least;
 use octets::octet;
 use octets::put;
@@ -17,19 +23,15 @@ ghost use mathlib.Core.List.{[]};
 ghost use Prim.Native.Nat.{_<_};
 ghost use lib.ListN.{length, drop};
 ghost use Rattle.octets.specs.Fields.{octetsAt};
+ghost use Rattle.octets.specs.Times.{timeAt};
 ghost use Rattle.events.specs.RsnaEvents.{rsnElementOf};
-ghost use Rattle.report_reader.specs.Decoders.{transitionIn, rsnaIn, peerLinkIn};
+ghost use Rattle.report_reader.specs.Decoders.{draftTimes, publishedTimes, bodyIn, timesIn, transitionIn, rsnaIn, peerLinkIn};
 
-// The octets of a time.
-const TIME: usize = 9;
-
-// The octets of a transition with its time.
-const TRANSITION: usize = TIME + transitions::TRANSITION_LENGTH;
-
-// A reported transition; the signals are source RCPI, source RSNI, target RCPI and target RSNI.
+// A reported transition; the signals are source RCPI, source RSNI, target RCPI and target RSNI. Of an
+// event's time fields those that the form does not carry are 0.
 #[repr(C)]
 pub struct TransitionReport {
-    pub time: [u8; 9],
+    pub times: Times,
     pub source: [u8; 6],
     pub target: [u8; 6],
     pub took: TimeUnits,
@@ -42,7 +44,7 @@ pub struct TransitionReport {
 // size says how many octets it has: none where it is absent.
 #[repr(C)]
 pub struct RsnaReport {
-    pub time: [u8; 9],
+    pub times: Times,
     pub target: [u8; 6],
     pub authentication: [u8; 4],
     pub method: [u8; 8],
@@ -54,7 +56,7 @@ pub struct RsnaReport {
 // A reported peer-to-peer link event.
 #[repr(C)]
 pub struct PeerLinkReport {
-    pub time: [u8; 9],
+    pub times: Times,
     pub peer: [u8; 6],
     pub class: u8,
     pub channel: u8,
@@ -71,12 +73,89 @@ fn behind(o: &[u8], n: usize) -> &[u8]
     &o[from..]
 }
 
-fn transition_of(o: &[u8]) -> TransitionReport
-    ensures { λ r. ⌜ r ≡ transitionIn (now (o .entry)) ⌝ }
+// The event's body, behind its time fields.
+fn body_in(form: u8, o: &[u8]) -> &[u8]
+    ensures { λ r. ⌜ now r ≡ bodyIn form (now (o .entry)) ⌝ }
 {
-    let body = behind(o, TIME);
-    TransitionReport {
+    behind(o, time_length(form))
+}
+
+// A slice that is shorter than an array of zeros, with zeros behind it.
+fn pad(o: &[u8], blank: &mut [u8])
+    requires { ⌜ now blank ≡ octetsAt [] 0 (length (now blank)) ⌝ }
+    ensures { λ _. ⌜ (length (now (o .entry)) < length (now (blank .entry)) → now (blank .exit) ≡ octetsAt (now (o .entry)) 0 (length (now (blank .entry)))) ⌝ }
+{
+    if blank.len() <= o.len() {
+        return;
+    }
+    put(blank, 0, o);
+}
+
+// As many octets as the array has.
+fn whole_of<'a>(o: &'a [u8], padded: &'a [u8]) -> &'a [u8]
+    requires { ⌜ (length (now o) < length (now padded) → now padded ≡ octetsAt (now o) 0 (length (now padded))) ⌝ }
+    ensures { λ r. ⌜ now r ≡ octetsAt (now (o .entry)) 0 (length (now (padded .entry))) ⌝ }
+{
+    if o.len() < padded.len() {
+        return padded;
+    }
+    &o[..padded.len()]
+}
+
+// The draft's time; no published field is carried.
+fn draft_times(o: &[u8]) -> Times
+    ensures { λ r. ⌜ r ≡ draftTimes (timeAt (now (o .entry)) 0) ⌝ }
+{
+    Times {
         time: time_at(o, 0),
+        tsf: [0; 8],
+        offset: [0; 10],
+        error: [0; 5],
+    }
+}
+
+// The published fields; the draft's time is not carried.
+fn published_times(o: &[u8]) -> Times
+    ensures { λ r. ⌜ r ≡ publishedTimes (octetsAt (now (o .entry)) 0 8) (octetsAt (now (o .entry)) 8 10) (octetsAt (now (o .entry)) 18 5) ⌝ }
+{
+    let mut tsf = [0u8; 8];
+    let mut offset = [0u8; 10];
+    let mut error = [0u8; 5];
+    read_at(o, 0, &mut tsf);
+    read_at(o, 8, &mut offset);
+    read_at(o, 18, &mut error);
+    Times {
+        time: [0; DRAFT_LENGTH],
+        tsf,
+        offset,
+        error,
+    }
+}
+
+// The time fields in a form. The end is tested before all of them: the length of what they are read of is
+// a constant, here and for the body of a transition.
+fn times_in(form: u8, o: &[u8]) -> Times
+    ensures { λ r. ⌜ r ≡ timesIn form (now (o .entry)) ⌝ }
+{
+    if form == DRAFT {
+        let mut padded = [0u8; DRAFT_LENGTH];
+        pad(o, &mut padded);
+        return draft_times(whole_of(o, &padded));
+    }
+    let mut padded = [0u8; PUBLISHED_LENGTH];
+    pad(o, &mut padded);
+    published_times(whole_of(o, &padded))
+}
+
+pub fn transition_in(form: u8, o: &[u8]) -> TransitionReport
+    ensures { λ r. ⌜ r ≡ transitionIn form (now (o .entry)) ⌝ }
+{
+    let rest = body_in(form, o);
+    let mut padded = [0u8; TRANSITION_LENGTH];
+    pad(rest, &mut padded);
+    let body = whole_of(rest, &padded);
+    TransitionReport {
+        times: times_in(form, o),
         source: transitions::source_of(body),
         target: transitions::target_of(body),
         took: transitions::took_of(body),
@@ -84,37 +163,6 @@ fn transition_of(o: &[u8]) -> TransitionReport
         result: transitions::result_of(body),
         signals: transitions::signals_of(body),
     }
-}
-
-// A slice that is shorter than a transition with its time, with zeros behind it.
-fn pad(o: &[u8], blank: &mut [u8])
-    requires { ⌜ now blank ≡ octetsAt [] 0 30 ⌝ }
-    ensures { λ _. ⌜ (length (now (o .entry)) < 30 → transitionIn (now (blank .exit)) ≡ transitionIn (now (o .entry))) ⌝ }
-{
-    if TRANSITION <= o.len() {
-        return;
-    }
-    put(blank, 0, o);
-}
-
-// As many octets as a transition with its time has.
-fn whole_of<'a>(o: &'a [u8], padded: &'a [u8]) -> &'a [u8]
-    requires { ⌜ (length (now o) < 30 → transitionIn (now padded) ≡ transitionIn (now o)) ⌝ }
-    ensures { λ r. ⌜ transitionIn (now r) ≡ transitionIn (now (o .entry)) ⌝ }
-{
-    if o.len() < TRANSITION {
-        return padded;
-    }
-    &o[..TRANSITION]
-}
-
-// The end is tested before all fields: the length of what they are read of is a constant.
-pub fn transition_in(o: &[u8]) -> TransitionReport
-    ensures { λ r. ⌜ r ≡ transitionIn (now (o .entry)) ⌝ }
-{
-    let mut padded = [0u8; TRANSITION];
-    pad(o, &mut padded);
-    transition_of(whole_of(o, &padded))
 }
 
 // The RSN element of a body.
@@ -125,15 +173,15 @@ fn rsn_of(body: &[u8]) -> &[u8]
     behind(body, rsna_length(first))
 }
 
-pub fn rsna_in(o: &[u8]) -> RsnaReport
-    ensures { λ r. ⌜ r ≡ rsnaIn (now (o .entry)) ⌝ }
+pub fn rsna_in(form: u8, o: &[u8]) -> RsnaReport
+    ensures { λ r. ⌜ r ≡ rsnaIn form (now (o .entry)) ⌝ }
 {
-    let body = behind(o, TIME);
+    let body = body_in(form, o);
     let element = rsn_of(body);
     let mut rsn = [0u8; RSN_LENGTH];
     read_at(element, 0, &mut rsn);
     RsnaReport {
-        time: time_at(o, 0),
+        times: times_in(form, o),
         target: rsna_events::target_of(body),
         authentication: rsna_events::authentication_of(body),
         method: rsna_events::method_of(body),
@@ -143,12 +191,12 @@ pub fn rsna_in(o: &[u8]) -> RsnaReport
     }
 }
 
-pub fn peer_link_in(o: &[u8]) -> PeerLinkReport
-    ensures { λ r. ⌜ r ≡ peerLinkIn (now (o .entry)) ⌝ }
+pub fn peer_link_in(form: u8, o: &[u8]) -> PeerLinkReport
+    ensures { λ r. ⌜ r ≡ peerLinkIn form (now (o .entry)) ⌝ }
 {
-    let body = behind(o, TIME);
+    let body = body_in(form, o);
     PeerLinkReport {
-        time: time_at(o, 0),
+        times: times_in(form, o),
         peer: peer_links::peer_of(body),
         class: peer_links::class_of(body),
         channel: peer_links::channel_of(body),

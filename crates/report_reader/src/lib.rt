@@ -1,5 +1,6 @@
-// Report frames, read (document 01, causes 11, 1, 2, then 4, 5, 17, 14 and 7): a frame is validated
-// whole, a cursor hands out its elements, and a decoder for each kind reads an event's octets.
+// Report frames, read (document 01, causes 11, 1, 2, then 4, 5, 17, 14 and 7; before them 15, document 02
+// (g): a reader is told the form of the time fields): a frame is validated whole, a cursor hands out its
+// elements, and a decoder for each kind reads an event's octets.
 mod decoders;
 
 pub use decoders::PeerLinkReport;
@@ -8,10 +9,14 @@ pub use decoders::TransitionReport;
 pub use decoders::peer_link_in;
 pub use decoders::rsna_in;
 pub use decoders::transition_in;
+use events::DRAFT;
+use events::DRAFT_LENGTH;
+use events::is_form;
 use events::peer_links::PEER_LINK_LENGTH;
 use events::rsna_events::METHOD_OFFSET;
 use events::rsna_events::RSN_LENGTH;
 use events::rsna_events::rsna_length;
+use events::time_length;
 use events::transitions::TRANSITION_LENGTH;
 use octets::Kind;
 use octets::Refusal;
@@ -33,11 +38,11 @@ ghost use mathlib.Core.List.{List};
 ghost use Prim.Native.Nat.{ℕ, _+_, _^_, _≤_, _<_};
 ghost use lib.ListN.{length, getD};
 ghost use Rattle.report_reader.specs.declared.Step.{Step};
-ghost use Rattle.report_reader.specs.Reader.{refusedStep, skippedStep, plainStep, loggedStep, isRsnaLength, isEventLength, typedStep, eventStep, walkedStep, diagnosticStep, ownReportStep, stepAt, Reading, gathered, readElements, refusedReport, reportOf, readReport};
+ghost use Rattle.report_reader.specs.Reader.{refusedStep, skippedStep, plainStep, loggedStep, isRsnaLength, isEventLength, goodTimeAt, typedStep, eventStep, walkedStep, diagnosticStep, ownReportStep, stepAt, cursorStep, Reading, gathered, readElements, refusedReport, reportOf, readReport};
 ghost use Rattle.report_reader.specs.Internal.{verdictOf, walkOf, foundElement, Fits, stepOf};
 
-// What a report body with an event has in front of the event's own: token, type, status, time.
-const EVENT_HEAD: usize = 12;
+// What a report body has in front of the time fields and the body of an event: token, type, status.
+const EVENT_HEAD: usize = 3;
 
 // The fields of a report element: how many octets stand behind its status, how many subelements
 // they are (in a diagnostic), and whether they are an event, which the decoder of its type reads.
@@ -144,48 +149,59 @@ fn logged(next: usize) -> Verdict
     }
 }
 
-// Has an RSNA event, by the first octet of its EAP method, a body of n octets?
-fn is_rsna_length(first: u8, n: usize) -> bool
-    ensures { λ r. ⌜ r ≡ isRsnaLength first n ⌝ }
+// Has an RSNA event, by the first octet of its EAP method, a body of n octets in a form?
+fn is_rsna_length(form: u8, first: u8, n: usize) -> bool
+    ensures { λ r. ⌜ r ≡ isRsnaLength form first n ⌝ }
 {
-    let bare = EVENT_HEAD + rsna_length(first);
+    let bare = EVENT_HEAD + time_length(form) + rsna_length(first);
     if n == bare {
         return true;
     }
     n == bare + RSN_LENGTH
 }
 
-// Has an event of a type a body of n octets?
-fn is_event_length(s: &[u8], at: usize, n: usize, ty: u8) -> bool
+// Has an event of a type a body of n octets in a form?
+fn is_event_length(form: u8, s: &[u8], at: usize, n: usize, ty: u8) -> bool
     requires { ⌜ at + 2 + n ≤ length (now s) ⌝ }
-    ensures { λ r. ⌜ r ≡ isEventLength (now (s .entry)) at n ty ⌝ }
+    ensures { λ r. ⌜ r ≡ isEventLength form (now (s .entry)) at n ty ⌝ }
 {
+    let time = time_length(form);
     match ty {
-        0 => n == EVENT_HEAD + TRANSITION_LENGTH,
-        1 => is_rsna_length(octet(s, at + 14 + METHOD_OFFSET), n),
-        2..=255 => n == EVENT_HEAD + PEER_LINK_LENGTH,
+        0 => n == EVENT_HEAD + time + TRANSITION_LENGTH,
+        1 => is_rsna_length(form, octet(s, at + 5 + time + METHOD_OFFSET), n),
+        2..=255 => n == EVENT_HEAD + time + PEER_LINK_LENGTH,
     }
 }
 
-// A Successful report of an event type with a table, not of length 3. Its time is read of a part of the
-// frame, whose length is then a constant.
-fn validate_typed(s: &[u8], at: usize, n: usize, end: usize) -> Verdict
-    requires { ⌜ (n ≡ 3 → ⊥) × (3 ≤ n) × (end ≡ at + 2 + n) × (end ≤ length (now s)) ⌝ }
-    ensures { λ r. ⌜ r ≡ verdictOf (typedStep (now (s .entry)) at n) ⌝ }
+// Is the draft's time good? It is read of a part of the frame, whose length is then a constant.
+fn good_time_at(form: u8, s: &[u8], at: usize) -> bool
+    requires { ⌜ at + 9 ≤ length (now s) ⌝ }
+    ensures { λ r. ⌜ r ≡ goodTimeAt form (now (s .entry)) at ⌝ }
 {
-    if !is_event_length(s, at, n, s[at + 3]) {
+    if form == DRAFT {
+        return good_time(time_at(&s[at..at + DRAFT_LENGTH], 0));
+    }
+    true
+}
+
+// A Successful report of an event type with a table, not of length 3.
+fn validate_typed(form: u8, s: &[u8], at: usize, n: usize, end: usize) -> Verdict
+    requires { ⌜ (n ≡ 3 → ⊥) × (3 ≤ n) × (end ≡ at + 2 + n) × (end ≤ length (now s)) ⌝ }
+    ensures { λ r. ⌜ r ≡ verdictOf (typedStep form (now (s .entry)) at n) ⌝ }
+{
+    if !is_event_length(form, s, at, n, s[at + 3]) {
         return refused(causes::BAD_REPORT_BODY, at);
     }
-    if !good_time(time_at(&s[at + 5..at + 14], 0)) {
+    if !good_time_at(form, s, at + 5) {
         return refused(causes::BAD_TIME, at);
     }
     logged(end)
 }
 
 // An event report; one of length 3 has nothing more, whatever its status and type.
-fn validate_event(s: &[u8], at: usize, n: usize, end: usize) -> Verdict
+fn validate_event(form: u8, s: &[u8], at: usize, n: usize, end: usize) -> Verdict
     requires { ⌜ (3 ≤ n) × (end ≡ at + 2 + n) × (end ≤ length (now s)) ⌝ }
-    ensures { λ r. ⌜ r ≡ verdictOf (eventStep (now (s .entry)) at n) ⌝ }
+    ensures { λ r. ⌜ r ≡ verdictOf (eventStep form (now (s .entry)) at n) ⌝ }
 {
     if n == 3 {
         return plain(end, 0);
@@ -195,7 +211,7 @@ fn validate_event(s: &[u8], at: usize, n: usize, end: usize) -> Verdict
     }
     let ty = s[at + 3];
     match ty {
-        0..=2 => validate_typed(s, at, n, end),
+        0..=2 => validate_typed(form, s, at, n, end),
         3..=255 => plain(end, 0),
     }
 }
@@ -217,9 +233,9 @@ fn validate_diagnostic(s: &[u8], at: usize, end: usize) -> Verdict
 }
 
 // An element of the frame's own ID, with n octets of body up to its end.
-fn validate_own(s: &[u8], kind: Kind, at: usize, n: usize, end: usize) -> Verdict
+fn validate_own(form: u8, s: &[u8], kind: Kind, at: usize, n: usize, end: usize) -> Verdict
     requires { ⌜ (end ≡ at + 2 + n) × (end ≤ length (now s)) ⌝ }
-    ensures { λ r. ⌜ r ≡ verdictOf (ownReportStep (now (s .entry)) kind at n) ⌝ }
+    ensures { λ r. ⌜ r ≡ verdictOf (ownReportStep form (now (s .entry)) kind at n) ⌝ }
 {
     if n < 3 {
         return refused(causes::SHORT_ELEMENT, at);
@@ -228,14 +244,14 @@ fn validate_own(s: &[u8], kind: Kind, at: usize, n: usize, end: usize) -> Verdic
         return refused(causes::BAD_REPORT_BODY, at);
     }
     match kind {
-        Kind::Event => validate_event(s, at, n, end),
+        Kind::Event => validate_event(form, s, at, n, end),
         Kind::Diagnostic => validate_diagnostic(s, at, end),
     }
 }
 
 // What stands at a position, validated.
-fn validate_at(s: &[u8], kind: Kind, at: usize) -> Verdict
-    ensures { λ r. ⌜ r ≡ verdictOf (stepAt (now (s .entry)) kind at) ⌝ }
+fn validate_at(form: u8, s: &[u8], kind: Kind, at: usize) -> Verdict
+    ensures { λ r. ⌜ r ≡ verdictOf (stepAt form (now (s .entry)) kind at) ⌝ }
 {
     let end = piece_end(s, at, s.len());
     if end == 0 {
@@ -244,7 +260,7 @@ fn validate_at(s: &[u8], kind: Kind, at: usize) -> Verdict
     if octet(s, at) != kind.report_id() {
         return skipped(end);
     }
-    validate_own(s, kind, at, size(s, at + 1), end)
+    validate_own(form, s, kind, at, size(s, at + 1), end)
 }
 
 // ---- its step, by the verdict
@@ -304,12 +320,16 @@ impl Cursor {
         }
     }
 
-    // What stands at the cursor, in a report frame of a kind. Past the frame's end that is refusal 4.
-    pub fn next(self, s: &[u8], kind: Kind) -> Step
-        ensures { λ r. ⌜ r ≡ stepAt (now (s .entry)) kind (self .at) ⌝ }
+    // What stands at the cursor, in a report frame of a form and a kind. Past the frame's end that is
+    // refusal 4.
+    pub fn next(self, form: u8, s: &[u8], kind: Kind) -> Step
+        ensures { λ r. ⌜ r ≡ cursorStep form (now (s .entry)) kind (self .at) ⌝ }
     {
         let at = self.at;
-        step_of(s, at, validate_at(s, kind, at))
+        if is_form(form) {
+            return step_of(s, at, validate_at(form, s, kind, at));
+        }
+        step_of(s, at, refused(causes::BAD_REQUESTER_LIST, 0))
     }
 }
 
@@ -318,7 +338,7 @@ impl Cursor {
 // Behind one more element.
 fn advance(w: Walk, v: Verdict) -> Walk
     requires { ⌜ w .count + 1 < 2 ^ 64 ⌝ }
-    ensures { λ r. ⌜ ((s : List ℕ) (x : Reading) (t : Step) → w ≡ walkOf x → v ≡ verdictOf t → r ≡ walkOf (gathered s x t)) ⌝ }
+    ensures { λ r. ⌜ ((form : ℕ) (s : List ℕ) (x : Reading) (t : Step) → w ≡ walkOf x → v ≡ verdictOf t → r ≡ walkOf (gathered form s x t)) ⌝ }
 {
     let refusal = v.refusal;
     if refusal.number != 0 {
@@ -343,8 +363,8 @@ fn advance(w: Walk, v: Verdict) -> Walk
 }
 
 // All elements from the front; the first refusal stops.
-fn validate(s: &[u8], kind: Kind) -> Walk
-    ensures { λ r. ⌜ r ≡ walkOf (readElements (now (s .entry)) kind) ⌝ }
+fn validate(form: u8, s: &[u8], kind: Kind) -> Walk
+    ensures { λ r. ⌜ r ≡ walkOf (readElements form (now (s .entry)) kind) ⌝ }
 {
     let mut w = Walk {
         refusal: Refusal::none(),
@@ -352,7 +372,7 @@ fn validate(s: &[u8], kind: Kind) -> Walk
         count: 0,
     };
     while w.at < s.len() {
-        w = advance(w, validate_at(s, kind, w.at));
+        w = advance(w, validate_at(form, s, kind, w.at));
         if w.refusal.number != 0 {
             return w;
         }
@@ -388,17 +408,20 @@ fn report_of(kind: Kind, dialog: u8, w: Walk) -> Report
 }
 
 // A frame of a kind, by its elements.
-fn validated(s: &[u8], kind: Kind) -> Report
-    ensures { λ r. ⌜ r ≡ reportOf kind (getD (now (s .entry)) 2 0) (readElements (now (s .entry)) kind) ⌝ }
+fn validated(form: u8, s: &[u8], kind: Kind) -> Report
+    ensures { λ r. ⌜ r ≡ reportOf kind (getD (now (s .entry)) 2 0) (readElements form (now (s .entry)) kind) ⌝ }
 {
-    report_of(kind, octet(s, 2), validate(s, kind))
+    report_of(kind, octet(s, 2), validate(form, s, kind))
 }
 
-// Validates a whole frame, given its destination. Each kind has a loop of its own, in which the kind is
+// Validates a whole frame, given its form and its destination. Each kind has a loop of its own, in which the kind is
 // a constant: `validate_at` is then inlined.
-pub fn read_report(destination: [u8; 6], s: &[u8]) -> Report
-    ensures { λ r. ⌜ r ≡ readReport destination (now (s .entry)) ⌝ }
+pub fn read_report(form: u8, destination: [u8; 6], s: &[u8]) -> Report
+    ensures { λ r. ⌜ r ≡ readReport form destination (now (s .entry)) ⌝ }
 {
+    if !is_form(form) {
+        return refused_report(causes::BAD_REQUESTER_LIST, 0);
+    }
     if is_group(destination) {
         return refused_report(causes::GROUP_DESTINATION, 0);
     }
@@ -408,7 +431,7 @@ pub fn read_report(destination: [u8; 6], s: &[u8]) -> Report
         return refused_report(cause, 0);
     }
     match kind {
-        Kind::Event => validated(s, Kind::Event),
-        Kind::Diagnostic => validated(s, Kind::Diagnostic),
+        Kind::Event => validated(form, s, Kind::Event),
+        Kind::Diagnostic => validated(form, s, Kind::Diagnostic),
     }
 }

@@ -13,7 +13,8 @@ use Rattle.octets.specs.declared.numbers.Kind.{Kind}
 use Rattle.octets.specs.declared.numbers.Kind.the-variants.{Event}
 use Rattle.octets.specs.Numbers.{successful}
 use Rattle.events.specs.declared.Entry.{Entry}
-use Rattle.events.specs.Log.{bodyCapacity, bodyOf}
+use Rattle.events.specs.Times.{timeLength}
+use Rattle.events.specs.Log.{bodyCapacity, bodyOf, timeOf}
 use Rattle.reports.specs.Reports.{reportElement, eventElement, reportHead}
 
 -- ---- general: writing at the front; all has been written; a count clamped to the length takes the same
@@ -48,25 +49,25 @@ module _ (kind : Kind) (token ty status : ℕ) (rest : List ℕ) where
   unfolding reportElement
   element-length = omega arith
 
-module _ (token : ℕ) (entry : Entry) (t : length (entry .time) ≡ 9) (b : length (entry .body) ≡ bodyCapacity) (n : ℕ) (m : n ≡ min (entry .length) bodyCapacity) where
+module _ (form token : ℕ) (entry : Entry) (t : length (timeOf form entry) ≡ timeLength form) (b : length (entry .body) ≡ bodyCapacity) (n : ℕ) (m : n ≡ min (entry .length) bodyCapacity) where
   pub body-part : take n (entry .body) ≡ bodyOf entry
   body-part = ap (λ (k : ℕ). take k (entry .body)) m ∙ take-min (entry .length) bodyCapacity (entry .body) b
 
-  rest-length : length (entry .time ++ take n (entry .body)) ≡ 9 + n
-  rest-length = length-append (entry .time) (take n (entry .body)) ∙ omega (arith, length-take n (entry .body))
+  rest-length : length (timeOf form entry ++ take n (entry .body)) ≡ timeLength form + n
+  rest-length = length-append (timeOf form entry) (take n (entry .body)) ∙ omega (arith, length-take n (entry .body))
 
-  event-parts : eventElement token entry ≡ reportHead Event token (entry .ty) successful (9 + n) ++ (entry .time ++ take n (entry .body))
+  event-parts : eventElement form token entry ≡ reportHead Event token (entry .ty) successful (timeLength form + n) ++ (timeOf form entry ++ take n (entry .body))
   unfolding eventElement
-  event-parts = rw (← body-part) (element-parts Event token (entry .ty) successful (entry .time ++ take n (entry .body)) ∙ rw rest-length)
+  event-parts = rw (← body-part) (element-parts Event token (entry .ty) successful (timeOf form entry ++ take n (entry .body)) ∙ rw rest-length)
 
-  pub event-length : length (eventElement token entry) ≡ 14 + n
+  pub event-length : length (eventElement form token entry) ≡ 5 + (timeLength form + n)
   unfolding eventElement
-  event-length = rw (← body-part) (element-length Event token (entry .ty) successful (entry .time ++ take n (entry .body)) ∙ omega (arith, rest-length))
+  event-length = rw (← body-part) (element-length Event token (entry .ty) successful (timeOf form entry ++ take n (entry .body)) ∙ omega (arith, rest-length))
 
-  -- head, time and body, one behind the other
-  pub put-event-parts : (s head : List ℕ) → 14 + n ≤ length s → head ≡ reportHead Event token (entry .ty) successful (9 + n)
-      → (i : ℕ) (y : List ℕ) → wrote i y ≡ putAt head 0 s → (j : ℕ) (z : List ℕ) → wrote j z ≡ putAt (entry .time) i y
-      → (k : ℕ) (x : List ℕ) → wrote k x ≡ putAt (take n (entry .body)) j z → wrote k x ≡ putFront (eventElement token entry) s
+  -- head, time fields and body, one behind the other
+  pub put-event-parts : (s head : List ℕ) → 5 + (timeLength form + n) ≤ length s → head ≡ reportHead Event token (entry .ty) successful (timeLength form + n)
+      → (i : ℕ) (y : List ℕ) → wrote i y ≡ putAt head 0 s → (j : ℕ) (z : List ℕ) → wrote j z ≡ putAt (timeOf form entry) i y
+      → (k : ℕ) (x : List ℕ) → wrote k x ≡ putAt (take n (entry .body)) j z → wrote k x ≡ putFront (eventElement form token entry) s
   put-event-parts s head fits is i y p j z q k x r =
-      put-three _ s (omega (arith, event-length)) head (entry .time ++ take n (entry .body))
-      (event-parts ∙ ap (λ l. l ++ (entry .time ++ take n (entry .body))) (sym is)) i y p (entry .time) (take n (entry .body)) refl j z q k x r
+      put-three _ s (omega (arith, event-length)) head (timeOf form entry ++ take n (entry .body))
+      (event-parts ∙ ap (λ l. l ++ (timeOf form entry ++ take n (entry .body))) (sym is)) i y p (timeOf form entry) (take n (entry .body)) refl j z q k x r

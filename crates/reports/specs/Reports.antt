@@ -7,15 +7,16 @@ use Rattle.octets.specs.declared.numbers.Kind.the-variants.{Event}
 use Rattle.octets.specs.Numbers.{reportId, successful}
 use Rattle.octets.specs.Elements.{framed}
 use Rattle.events.specs.declared.Entry.{Entry}
-use Rattle.events.specs.Log.{bodyOf}
+use Rattle.events.specs.Log.{bodyOf, timeOf}
 
 -- "Report body: token, type, status", and what follows
 unfoldable pub reportElement : Kind → ℕ → ℕ → ℕ → List ℕ → List ℕ
 reportElement kind token ty status rest = framed (reportId kind) (token ∷ ty ∷ status ∷ rest)
 
--- "for status 0 of event type 0 .. 9 octets of time and 21 of transition", and so for each kind: its time, and its body
-unfoldable pub eventElement : ℕ → Entry → List ℕ
-eventElement token entry = reportElement Event token (entry .ty) successful (entry .time ++ bodyOf entry)
+-- "for status 0 of event type 0 .. 9 octets of time and 21 of transition", and so for each kind: its time fields in a form (document 02 (g)),
+-- and its body
+unfoldable pub eventElement : ℕ → ℕ → Entry → List ℕ
+eventElement form token entry = reportElement Event token (entry .ty) successful (timeOf form entry ++ bodyOf entry)
 
 -- an element's octets up to its status, with n octets behind them
 abbrev pub reportHead : Kind → ℕ → ℕ → ℕ → ℕ → List ℕ

@@ -1,7 +1,9 @@
 // Report elements, written (document 01, "Frames and elements"): each is put whole at the front of
 // the part of a report buffer that is lent, or not at all.
 use events::BODY_CAPACITY;
+use events::DRAFT;
 use events::Entry;
+use events::time_length;
 use events::transitions::TRANSITION_LENGTH;
 use octets::Kind;
 use octets::least;
@@ -13,7 +15,7 @@ ghost use Prim.Native.Nat.{_≤_};
 ghost use lib.ListN.{length, take};
 ghost use Rattle.laws.specs.Buffers.{wrote, putFront, putAt};
 ghost use Rattle.events.specs.Transitions.{transitionLength};
-ghost use Rattle.events.specs.Log.{bodyCapacity};
+ghost use Rattle.events.specs.Log.{bodyCapacity, timeOf};
 ghost use Rattle.reports.specs.Reports.{reportHead, reportElement, eventElement};
 
 // The longest list behind token, type and status.
@@ -52,19 +54,31 @@ fn put_transition(buf: &mut [u8], at: usize, body: [u8; BODY_CAPACITY]) -> usize
     put(buf, at, &body[..TRANSITION_LENGTH])
 }
 
-// A Successful report with an event: its time and its body.
-pub fn put_event(buf: &mut [u8], token: u8, entry: Entry) -> usize
-    ensures { λ r. ⌜ wrote r (now (buf .exit)) ≡ putFront (eventElement token entry) (now (buf .entry)) ⌝ }
+// The time fields of an event in a form, behind the first `at` of a buffer.
+fn put_time(buf: &mut [u8], at: usize, form: u8, entry: Entry) -> usize
+    ensures { λ r. ⌜ wrote r (now (buf .exit)) ≡ putAt (timeOf form entry) at (now (buf .entry)) ⌝ }
+{
+    if form == DRAFT {
+        let time = entry.time;
+        return put(buf, at, &time);
+    }
+    let published = entry.published;
+    put(buf, at, &published)
+}
+
+// A Successful report with an event: its time fields in a form, and its body.
+pub fn put_event(buf: &mut [u8], form: u8, token: u8, entry: Entry) -> usize
+    ensures { λ r. ⌜ wrote r (now (buf .exit)) ≡ putFront (eventElement form token entry) (now (buf .entry)) ⌝ }
 {
     let n = least(entry.length as usize, BODY_CAPACITY);
-    if buf.len() < 14 + n {
+    let rest = time_length(form) + n;
+    if buf.len() < 5 + rest {
         return 0;
     }
-    let head = head_of(Kind::Event, token, entry.ty, numbers::SUCCESSFUL, 9 + n);
-    let time = entry.time;
+    let head = head_of(Kind::Event, token, entry.ty, numbers::SUCCESSFUL, rest);
     let body = entry.body;
     let behind_head = put(buf, 0, &head);
-    let behind_time = put(buf, behind_head, &time);
+    let behind_time = put_time(buf, behind_head, form, entry);
     if n == TRANSITION_LENGTH {
         return put_transition(buf, behind_time, body);
     }

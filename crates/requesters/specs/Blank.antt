@@ -4,7 +4,7 @@ use mathlib.Core.Bool.{false}
 use lib.ListN.{replicate}
 use Rattle.requests.specs.Elements.{elementCapacity, blankElements}
 use Rattle.model.specs.declared.Diagnostic.{Diagnostic}
-use Rattle.model.specs.Model.{Address}
+use Rattle.model.specs.Model.{Listed, listedAddress, listedForm}
 use Rattle.requesters.specs.declared.EventRequest.{EventRequest}
 use Rattle.requesters.specs.declared.DiagnosticRequest.{DiagnosticRequest}
 use Rattle.requesters.specs.declared.Requester.{Requester}
@@ -19,5 +19,5 @@ blankDiagnostic = record { token = 0; ty = 0; timeout = 0 }
 abbrev pub blankDiagnostics : DiagnosticRequest
 blankDiagnostics = record { outstanding = false; dialog = 0; accepted = record { 0 = 0 }; first = 0; count = 0; elements = replicate elementCapacity blankDiagnostic }
 
-abbrev pub blankRequester : Address → Requester
-blankRequester a = record { address = a; events = blankEvents; diagnostics = blankDiagnostics }
+abbrev pub blankRequester : Listed → Requester
+blankRequester x = record { address = listedAddress x; form = listedForm x; events = blankEvents; diagnostics = blankDiagnostics }

@@ -37,7 +37,7 @@ viewDiagnostics r =
     else none
 
 unfoldable pub viewRequester : Code·Requester → Requester
-viewRequester r = record { address = r .address; events = viewEvents (r .events); diagnostics = viewDiagnostics (r .diagnostics) }
+viewRequester r = record { address = r .address; form = r .form; events = viewEvents (r .events); diagnostics = viewDiagnostics (r .diagnostics) }
 
 -- document 01's answer, with the number and the place of a refusal, for each case of the code's
 unfoldable pub viewAnswer : Code·Answer → Answer

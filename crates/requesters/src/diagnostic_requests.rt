@@ -55,7 +55,7 @@ fn request_of(dialog: u8, accepted: Elapsed, k: Diagnostics) -> DiagnosticReques
         dialog,
         accepted,
         first: 0,
-        count: k.count,
+        count: k.count as u8,
         elements,
     }
 }
@@ -66,8 +66,8 @@ fn kept(d: DiagnosticRequest, now: Elapsed) -> Diagnostics
 {
     let accepted = d.accepted;
     let all = d.elements;
-    let end = least(d.count, ELEMENT_CAPACITY);
-    let mut i = d.first;
+    let end = least(d.count as usize, ELEMENT_CAPACITY);
+    let mut i = d.first as usize;
     let mut elements = all;
     let mut count: usize = 0;
     while i < end {

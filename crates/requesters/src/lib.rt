@@ -20,25 +20,26 @@ use units::Elapsed;
 
 // An event request, where outstanding. Its elements left are those from first to count; the front
 // one gave so many events, and its next one is below the place below. The log's first mark
-// places were logged before acceptance. Places outside first to count are free.
+// places were logged before acceptance. Places outside first to count are free. Counts are one octet
+// each: as words they would make a station larger by a fortieth, which every call copies.
 #[repr(C)]
 pub struct EventRequest {
     pub outstanding: bool,
     pub dialog: u8,
     pub given: u8,
-    pub mark: usize,
-    pub below: usize,
-    pub first: usize,
-    pub count: usize,
+    pub mark: u8,
+    pub below: u8,
+    pub first: u8,
+    pub count: u8,
     pub elements: [Element; ELEMENT_CAPACITY],
 }
 
 // How far an event request has come: its first element left, how many events that one gave, and
 // below which place of the log its next one is.
 pub struct Progress {
-    pub first: usize,
+    pub first: u8,
     pub given: u8,
-    pub below: usize,
+    pub below: u8,
 }
 
 // A diagnostic request, where outstanding, and the time of its acceptance. Its elements left are
@@ -46,17 +47,18 @@ pub struct Progress {
 #[repr(C)]
 pub struct DiagnosticRequest {
     pub accepted: Elapsed,
-    pub first: usize,
-    pub count: usize,
+    pub first: u8,
+    pub count: u8,
     pub elements: [Diagnostic; ELEMENT_CAPACITY],
     pub outstanding: bool,
     pub dialog: u8,
 }
 
-// A requester, with at most one request of each kind.
+// A requester, with the form that it follows (document 02 (g)) and at most one request of each kind.
 #[repr(C)]
 pub struct Requester {
     pub address: [u8; 6],
+    pub form: u8,
     pub events: EventRequest,
     pub diagnostics: DiagnosticRequest,
 }

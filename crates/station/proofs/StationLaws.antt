@@ -17,7 +17,7 @@ use Rattle.octets.specs.Refusals.{badRequesterList, badIdentity}
 use Rattle.events.specs.declared.Entry.{Entry}
 use Rattle.events.specs.declared.Log.{Log}
 use Rattle.model.specs.Clocks.{unset}
-use Rattle.model.specs.Model.{standard, requesterCapacity, Address, Station, Result, accepted}
+use Rattle.model.specs.Model.{standard, requesterCapacity, Listed, Station, Result, accepted}
 use Rattle.identities.specs.Identity.{stands, passRow, goodFrom, goodIdentity}
 use Rattle.model.specs.Requesters.{badList}
 use Rattle.requesters.specs.Views.{viewAnswer, viewIdentity}
@@ -33,7 +33,7 @@ use Rattle.model.specs.Stations.{result, refusedFor, nobody, newStation, setup,
 use Rattle.events.specs.Log.{logged, blankLog}
 
 -- a list that is not refused has at most four addresses
-pub good-length : (l : List Address) → badList requesterCapacity l ≡ false → length l ≤ requesterCapacity
+pub good-length : (l : List Listed) → badList requesterCapacity l ≡ false → length l ≤ requesterCapacity
 unfolding badList
 good-length l =
     let P : Bool → Type 0 = λ (b : Bool). b ≡ false → length l ≤ requesterCapacity in
@@ -56,11 +56,11 @@ unfolding viewIdentity if_then_else_
 view-some n o e = rw (ne-eqb n 0 e)
 
 -- a station that names the requesters of a list
-view-named : (t : Timer) (n : ℕ) (o : List ℕ) (log : Log) (l : List Address) → (n ≡ 0 → ⊥) → length l ≤ requesterCapacity → view (namedStation t o n log l) ≡ newStation (viewTimer t) (take n o) (logged log) l
+view-named : (t : Timer) (n : ℕ) (o : List ℕ) (log : Log) (l : List Listed) → (n ≡ 0 → ⊥) → length l ≤ requesterCapacity → view (namedStation t o n log l) ≡ newStation (viewTimer t) (take n o) (logged log) l
 unfolding view
 view-named t n o log l h few = rw (view-some n o h, named-views l few)
 
-pub view-setup : (i : List ℕ) (l : List Address) → 0 < length i → length l ≤ requesterCapacity → view (setupStation i l) ≡ newStation unset i [] l
+pub view-setup : (i : List ℕ) (l : List Listed) → 0 < length i → length l ≤ requesterCapacity → view (setupStation i l) ≡ newStation unset i [] l
 unfolding logged viewTimer if_then_else_
 view-setup i l h few =
     view-named unsetTimer (length i) _ blankLog l (λ z. omega arith) few ∙ ap (λ (o : List ℕ). newStation unset o [] l) (take-at i _ (length i) refl)
@@ -76,7 +76,7 @@ module _ (o : Outcome) where
   unfolding viewOutcome viewAnswer
   accepted-view g e = ap (λ (x : Outcome). viewOutcome x []) e
 
-  pub accepted-named : (t : Timer) (i : List ℕ) (n : ℕ) (log : Log) (l : List Address) (rs : List Requester)
+  pub accepted-named : (t : Timer) (i : List ℕ) (n : ℕ) (log : Log) (l : List Listed) (rs : List Requester)
       → o ≡ acceptedOutcome (record { timer = t; identity = i; length = n; log = log; requesters = rs; count = length l }) → rs ≡ namedRequesters l
       → o ≡ acceptedOutcome (namedStation t i n log l)
   accepted-named t i n log l rs e f = rw f at e
@@ -91,7 +91,7 @@ module _ (o : Outcome) where
 
 -- ---- the ladders, by the tests that lead to each step
 
-module _ (log : List Entry) (l : List Address) (g : Station) where
+module _ (log : List Entry) (l : List Listed) (g : Station) where
   rename-bad : badList requesterCapacity l ≡ true → result g (refusedFor badRequesterList) [] ≡ rename standard log l g
   unfolding rename if_then_else_
   rename-bad e = rw e
@@ -115,7 +115,7 @@ module _ (log : List Entry) (l : List Address) (g : Station) where
         go false e false f = absurd (h (rw (e, f)))
 
 -- a list that a station with an identity takes
-rename-takes : (n : ℕ) (l : List Address) → renameCause n l ≡ 0 → (badList requesterCapacity l ≡ false) × (n ≡ 0 → ⊥)
+rename-takes : (n : ℕ) (l : List Listed) → renameCause n l ≡ 0 → (badList requesterCapacity l ≡ false) × (n ≡ 0 → ⊥)
 unfolding renameCause if_then_else_
 rename-takes n l = go (badList requesterCapacity l) refl (eqb n 0) refl
   where
@@ -124,7 +124,7 @@ rename-takes n l = go (badList requesterCapacity l) refl (eqb n 0) refl
     go false e true f h = absurd (omega arith)
     go false e false f h = (e, eqb-false n 0 f)
 
-pub rename-taken : (o : Outcome) (g : Code·Station) (log : Log) (l : List Address) → renameCause (g .length) l ≡ 0
+pub rename-taken : (o : Outcome) (g : Code·Station) (log : Log) (l : List Listed) → renameCause (g .length) l ≡ 0
     → o ≡ acceptedOutcome (namedStation (g .timer) (g .identity) (g .length) log l) → viewOutcome o [] ≡ rename standard (logged log) l (view g)
 unfolding view
 rename-taken o g log l free e =
@@ -133,7 +133,7 @@ rename-taken o g log l free e =
     ∙ ap (λ (x : Station). result x accepted []) (view-named (g .timer) (g .length) (g .identity) log l (takes .1) (good-length l (takes .0)))
     ∙ rename-some (logged log) l (view g) _ (takes .0) (view-some (g .length) (g .identity) (takes .1))
 
-module _ (i : List ℕ) (l : List Address) where
+module _ (i : List ℕ) (l : List Listed) where
   pub setup-bad-list : badList requesterCapacity l ≡ true → result nobody (refusedFor badRequesterList) [] ≡ setup standard i l
   unfolding setup if_then_else_
   setup-bad-list e = rw e

@@ -31,10 +31,10 @@ ghost use Rattle.station.specs.Internal.{frameRefusal, answerToFrame};
 ghost use Rattle.station.specs.Views.{view, viewOutcome};
 
 // How many entries are logged.
-fn logged_in(log: Log) -> usize
+fn logged_in(log: Log) -> u8
     ensures { λ r. ⌜ r ≡ length (Log·logged log) ⌝ }
 {
-    least(log.count, LOG_CAPACITY)
+    least(log.count, LOG_CAPACITY) as u8
 }
 
 // Why a frame is refused, whose source found its requester or did not; number 0 where it is not. The

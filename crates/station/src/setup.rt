@@ -33,7 +33,7 @@ fn nobody() -> Station
 }
 
 // The station of an identity, with a blank log.
-fn setup_station(identity: &[u8], list: &[[u8; 6]]) -> Station
+fn setup_station(identity: &[u8], list: &[[u8; 7]]) -> Station
     requires { ⌜ length (now identity) ≤ 252 ⌝ }
     ensures { λ r. ⌜ r ≡ setupStation (now (identity .entry)) (now (list .entry)) ⌝ }
 {
@@ -51,7 +51,7 @@ fn setup_station(identity: &[u8], list: &[[u8; 6]]) -> Station
 
 impl Station {
     // Names the identity and the requesters.
-    pub fn setup(identity: &[u8], list: &[[u8; 6]]) -> Outcome
+    pub fn setup(identity: &[u8], list: &[[u8; 7]]) -> Outcome
         ensures { λ r. ⌜ viewOutcome r [] ≡ Stations·setup standard (now (identity .entry)) (now (list .entry)) ⌝ }
         ensures { λ r. ⌜ Leaves r (setupStation (now (identity .entry)) (now (list .entry))) ⌝ }
     {

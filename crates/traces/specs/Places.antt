@@ -26,6 +26,6 @@ badLength s at = ltb longestLength (pairAt s at)
 unfoldable pub octetsEnd : List ℕ → ℕ → ℕ
 octetsEnd s at = if badLength s at then 0 else placeBehindRecord s (placeBehindRecord s at 2) (pairAt s at)
 
--- "number of addresses (1), addresses (6 each)"
+-- "number of addresses (1), addresses (6 each)", and "each address is followed by its form (1)"
 unfoldable pub listEnd : List ℕ → ℕ → ℕ
-listEnd s at = placeBehindRecord s (placeBehindRecord s at 1) (6 * getD s at 0)
+listEnd s at = placeBehindRecord s (placeBehindRecord s at 1) (7 * getD s at 0)

@@ -11,6 +11,7 @@ use Rattle.octets.specs.Fields.{pairAt, octetsAt}
 use Rattle.octets.specs.Addresses.{addressAt}
 use Rattle.octets.specs.Times.{timeAt}
 use Rattle.units.specs.declared.Milliseconds.{Milliseconds}
+use Rattle.events.specs.declared.times.Times.{Times}
 use Rattle.events.specs.declared.Transition.{Transition}
 use Rattle.events.specs.declared.PeerLink.{PeerLink}
 use Rattle.traces.specs.declared.calls.Span.{Span}
@@ -48,12 +49,13 @@ writerCallEnd s at =
 -- the fields of a record of a number, from a position on
 unfoldable pub fieldsEnd : List ℕ → ℕ → ℕ → ℕ
 fieldsEnd s number at =
-    -- "`00` setup: identity length (2), identity, number of addresses (1), addresses (6 each)"
+    -- "`00` setup: identity length (2), identity, number of addresses (1), addresses (6 each)", and their forms
     if eqb number 0 then listEnd s (octetsEnd s at)
     -- "`01` clock: reading (4)"
     else if eqb number 1 then placeBehindRecord s at 4
-    -- "`02` logging: reading (4), time (9), source (6), target (6), reason (1), result (2), .. (1 each), departure (4)"
-    else if eqb number 2 then placeBehindRecord s at 36
+    -- "`02` logging: reading (4), time (9), source (6), target (6), reason (1), result (2), .. (1 each), departure (4)"; "in `02`, `07` and
+    -- `08` the time is followed by TSF (8), UTC offset (10) and event time error (5)"
+    else if eqb number 2 then placeBehindRecord s at 59
     -- "`03` frame call: reading (4), destination (6), source (6), length (2), octets"
     else if eqb number 3 then octetsEnd s (placeBehindRecord s at 16)
     else if eqb number 4 then reportCallEnd s at
@@ -62,13 +64,13 @@ fieldsEnd s number at =
     else if eqb number 6 then listEnd s (placeBehindRecord s at 4)
     -- "`07` logs an RSNA event: reading (4), time (9), target (6), authentication type (4), EAP method (8), result (1), RSN element's length
     -- (2), RSN element"
-    else if eqb number 7 then octetsEnd s (placeBehindRecord s at 32)
+    else if eqb number 7 then octetsEnd s (placeBehindRecord s at 55)
     -- "`08` logs a peer link event: reading (4), time (9), peer address (6), regulatory class (1), channel (1), transmit power (1), connection
     -- time (3), peer status (1)"
-    else if eqb number 8 then placeBehindRecord s at 26
+    else if eqb number 8 then placeBehindRecord s at 49
     else if eqb number 16 then writerCallEnd s at
-    -- "`11` report reader: destination (6), length (2), octets"
-    else if eqb number 17 then octetsEnd s (placeBehindRecord s at 6)
+    -- "`11` report reader: destination (6), length (2), octets", and "begin with the form (1), then the destination"
+    else if eqb number 17 then octetsEnd s (placeBehindRecord s at 7)
     -- "`12` explains: element's length (2), element, count (2), position (2)"
     else if eqb number 18 then placeBehindRecord s (octetsEnd s at) 4
     else 0
@@ -90,10 +92,24 @@ fieldsOf s at = if leb (length s) at then length s else at + 1
 unfoldable pub millisecondsAt : List ℕ → ℕ → Milliseconds
 millisecondsAt s at = record { 0 = pairAt s at + 65536 * pairAt s (at + 2) }
 
--- so many addresses, one behind the other
-unfoldable pub addressesAt : List ℕ → ℕ → ℕ → List (List ℕ)
-addressesAt s zero at = []
-addressesAt s (suc n) at = addressAt s at ∷ addressesAt s n (at + 6)
+-- "the time is followed by TSF (8), UTC offset (10) and event time error (5)"
+unfoldable pub timesAt : List ℕ → ℕ → Times
+timesAt s at =
+    record {
+      time = timeAt s at;
+      tsf = octetsAt s (at + 9) 8;
+      offset = octetsAt s (at + 17) 10;
+      error = octetsAt s (at + 27) 5;
+    }
+
+-- "each address is followed by its form (1)"
+abbrev pub requesterAt : List ℕ → ℕ → List ℕ
+requesterAt s at = octetsAt s at 7
+
+-- so many, one behind the other
+unfoldable pub requestersAt : List ℕ → ℕ → ℕ → List (List ℕ)
+requestersAt s zero at = []
+requestersAt s (suc n) at = requesterAt s at ∷ requestersAt s n (at + 7)
 
 -- "length (2), octets"
 unfoldable pub spanAt : List ℕ → ℕ → Span
@@ -107,13 +123,13 @@ setupFields s at =
 unfoldable pub transitionFields : List ℕ → ℕ → Transition
 transitionFields s at =
     record {
-      time = timeAt s (at + 4);
-      source = addressAt s (at + 13);
-      target = addressAt s (at + 19);
-      reason = getD s (at + 25) 0;
-      result = pairAt s (at + 26);
-      signals = octetsAt s (at + 28) 4;
-      departure = millisecondsAt s (at + 32);
+      times = timesAt s (at + 4);
+      source = addressAt s (at + 36);
+      target = addressAt s (at + 42);
+      reason = getD s (at + 48) 0;
+      result = pairAt s (at + 49);
+      signals = octetsAt s (at + 51) 4;
+      departure = millisecondsAt s (at + 55);
     }
 
 unfoldable pub frameFields : List ℕ → ℕ → FrameCall
@@ -143,25 +159,25 @@ rsnaFields s at =
     record {
       event =
           record {
-            time = timeAt s (at + 4);
-            target = addressAt s (at + 13);
-            authentication = octetsAt s (at + 19) 4;
-            method = octetsAt s (at + 23) 8;
-            result = getD s (at + 31) 0;
+            times = timesAt s (at + 4);
+            target = addressAt s (at + 36);
+            authentication = octetsAt s (at + 42) 4;
+            method = octetsAt s (at + 46) 8;
+            result = getD s (at + 54) 0;
           };
-      rsn = spanAt s (at + 32);
+      rsn = spanAt s (at + 55);
     }
 
 unfoldable pub peerLinkFields : List ℕ → ℕ → PeerLink
 peerLinkFields s at =
     record {
-      time = timeAt s (at + 4);
-      peer = addressAt s (at + 13);
-      class = getD s (at + 19) 0;
-      channel = getD s (at + 20) 0;
-      power = getD s (at + 21) 0;
-      connection = octetsAt s (at + 22) 3;
-      status = getD s (at + 25) 0;
+      times = timesAt s (at + 4);
+      peer = addressAt s (at + 36);
+      class = getD s (at + 42) 0;
+      channel = getD s (at + 43) 0;
+      power = getD s (at + 44) 0;
+      connection = octetsAt s (at + 45) 3;
+      status = getD s (at + 48) 0;
     }
 
 unfoldable pub writerFields : List ℕ → ℕ → WriterCall
@@ -176,7 +192,7 @@ writerFields s at =
     }
 
 unfoldable pub readerFields : List ℕ → ℕ → ReaderCall
-readerFields s at = record { destination = addressAt s at; frame = spanAt s (at + 6) }
+readerFields s at = record { form = getD s at 0; destination = addressAt s (at + 1); frame = spanAt s (at + 7) }
 
 unfoldable pub explainFields : List ℕ → ℕ → ExplainCall
 explainFields s at =

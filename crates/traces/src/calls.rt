@@ -1,6 +1,7 @@
 // The fields of each record; octets past the end of the input are 0.
 use events::PeerLink;
 use events::RsnaEvent;
+use events::Times;
 use events::Transition;
 use octets::Kind;
 use octets::address_at;
@@ -14,7 +15,7 @@ ghost use mathlib.Core.Path.{_≡_};
 ghost use Prim.Native.Nat.{_+_, _≤_};
 ghost use lib.ListN.{length};
 ghost use Rattle.octets.specs.Fields.{octetsAt};
-ghost use Rattle.traces.specs.Records.{fieldsOf, millisecondsAt, addressesAt, spanAt, setupFields, transitionFields, frameFields, reportFields, moveFields, rsnaFields, peerLinkFields, writerFields, readerFields, explainFields};
+ghost use Rattle.traces.specs.Records.{fieldsOf, millisecondsAt, timesAt, requesterAt, requestersAt, spanAt, setupFields, transitionFields, frameFields, reportFields, moveFields, rsnaFields, peerLinkFields, writerFields, readerFields, explainFields};
 
 // Octets of the input, from one position to another.
 pub struct Span {
@@ -22,7 +23,7 @@ pub struct Span {
     pub to: usize,
 }
 
-// Behind the identity are a number of addresses, and they.
+// Behind the identity are a number of requesters, and they.
 pub struct SetupCall {
     pub identity: Span,
     pub count: u8,
@@ -45,7 +46,7 @@ pub struct ReportCall {
     pub fill: u8,
 }
 
-// A move or a network change; its addresses stand at a position.
+// A move or a network change; its requesters stand at a position.
 pub struct MoveCall {
     pub reading: Milliseconds,
     pub count: u8,
@@ -68,6 +69,7 @@ pub struct WriterCall {
 }
 
 pub struct ReaderCall {
+    pub form: u8,
     pub destination: [u8; 6],
     pub frame: Span,
 }
@@ -115,6 +117,14 @@ fn four_at(s: &[u8], at: usize) -> [u8; 4]
     o
 }
 
+fn five_at(s: &[u8], at: usize) -> [u8; 5]
+    ensures { λ r. ⌜ r ≡ octetsAt (now (s .entry)) at 5 ⌝ }
+{
+    let mut o = [0u8; 5];
+    read_at(s, at, &mut o);
+    o
+}
+
 fn eight_at(s: &[u8], at: usize) -> [u8; 8]
     ensures { λ r. ⌜ r ≡ octetsAt (now (s .entry)) at 8 ⌝ }
 {
@@ -123,9 +133,30 @@ fn eight_at(s: &[u8], at: usize) -> [u8; 8]
     o
 }
 
+fn ten_at(s: &[u8], at: usize) -> [u8; 10]
+    ensures { λ r. ⌜ r ≡ octetsAt (now (s .entry)) at 10 ⌝ }
+{
+    let mut o = [0u8; 10];
+    read_at(s, at, &mut o);
+    o
+}
+
+// An event's time fields: the time, TSF, UTC offset, event time error.
+fn times_at(s: &[u8], at: usize) -> Times
+    requires { ⌜ at ≤ length (now s) + 4 ⌝ }
+    ensures { λ r. ⌜ r ≡ timesAt (now (s .entry)) at ⌝ }
+{
+    Times {
+        time: time_at(s, at),
+        tsf: eight_at(s, at + 9),
+        offset: ten_at(s, at + 17),
+        error: five_at(s, at + 27),
+    }
+}
+
 // A length and so many octets.
 fn span_at(s: &[u8], at: usize) -> Span
-    requires { ⌜ at ≤ length (now s) + 32 ⌝ }
+    requires { ⌜ at ≤ length (now s) + 55 ⌝ }
     ensures { λ r. ⌜ (r ≡ spanAt (now (s .entry)) at) × (r .to ≤ at + 65537) ⌝ }
 {
     let from = at + 2;
@@ -135,30 +166,39 @@ fn span_at(s: &[u8], at: usize) -> Span
     }
 }
 
-// 255 addresses, one behind the other.
-fn read_addresses(s: &[u8], from: usize) -> [[u8; 6]; 255]
-    requires { ⌜ from ≤ length (now s) ⌝ }
-    ensures { λ r. ⌜ r ≡ addressesAt (now (s .entry)) 255 from ⌝ }
+// An address and its form.
+fn requester_at(s: &[u8], at: usize) -> [u8; 7]
+    ensures { λ r. ⌜ r ≡ requesterAt (now (s .entry)) at ⌝ }
 {
-    let mut list = [[0u8; 6]; 255];
+    let mut requester = [0u8; 7];
+    read_at(s, at, &mut requester);
+    requester
+}
+
+// 255 requesters, one behind the other.
+fn read_requesters(s: &[u8], from: usize) -> [[u8; 7]; 255]
+    requires { ⌜ from ≤ length (now s) ⌝ }
+    ensures { λ r. ⌜ r ≡ requestersAt (now (s .entry)) 255 from ⌝ }
+{
+    let mut list = [[0u8; 7]; 255];
     let mut at = from;
     let mut i: usize = 0;
     while i < 255 {
-        list[i] = address_at(s, at);
-        at += 6;
+        list[i] = requester_at(s, at);
+        at += 7;
         i += 1;
     }
     list
 }
 
-// The addresses at a position, as many as a record can have.
-pub fn addresses_at(s: &[u8], from: usize) -> [[u8; 6]; 255]
-    ensures { λ r. ⌜ r ≡ addressesAt (now (s .entry)) 255 from ⌝ }
+// The requesters at a position, as many as a record can have.
+pub fn requesters_at(s: &[u8], from: usize) -> [[u8; 7]; 255]
+    ensures { λ r. ⌜ r ≡ requestersAt (now (s .entry)) 255 from ⌝ }
 {
     if s.len() < from {
-        return read_addresses(s, s.len());
+        return read_requesters(s, s.len());
     }
-    read_addresses(s, from)
+    read_requesters(s, from)
 }
 
 // The reading that is the first field of a record.
@@ -186,13 +226,13 @@ pub fn transition_at(s: &[u8], at: usize) -> Transition
 {
     let at = fields(s, at);
     Transition {
-        time: time_at(s, at + 4),
-        source: address_at(s, at + 13),
-        target: address_at(s, at + 19),
-        reason: octet(s, at + 25),
-        result: pair_at(s, at + 26),
-        signals: four_at(s, at + 28),
-        departure: milliseconds_at(s, at + 32),
+        times: times_at(s, at + 4),
+        source: address_at(s, at + 36),
+        target: address_at(s, at + 42),
+        reason: octet(s, at + 48),
+        result: pair_at(s, at + 49),
+        signals: four_at(s, at + 51),
+        departure: milliseconds_at(s, at + 55),
     }
 }
 
@@ -238,13 +278,13 @@ pub fn rsna_call_at(s: &[u8], at: usize) -> RsnaCall
     let at = fields(s, at);
     RsnaCall {
         event: RsnaEvent {
-            time: time_at(s, at + 4),
-            target: address_at(s, at + 13),
-            authentication: four_at(s, at + 19),
-            method: eight_at(s, at + 23),
-            result: octet(s, at + 31),
+            times: times_at(s, at + 4),
+            target: address_at(s, at + 36),
+            authentication: four_at(s, at + 42),
+            method: eight_at(s, at + 46),
+            result: octet(s, at + 54),
         },
-        rsn: span_at(s, at + 32),
+        rsn: span_at(s, at + 55),
     }
 }
 
@@ -253,13 +293,13 @@ pub fn peer_link_at(s: &[u8], at: usize) -> PeerLink
 {
     let at = fields(s, at);
     PeerLink {
-        time: time_at(s, at + 4),
-        peer: address_at(s, at + 13),
-        class: octet(s, at + 19),
-        channel: octet(s, at + 20),
-        power: octet(s, at + 21),
-        connection: three_at(s, at + 22),
-        status: octet(s, at + 25),
+        times: times_at(s, at + 4),
+        peer: address_at(s, at + 36),
+        class: octet(s, at + 42),
+        channel: octet(s, at + 43),
+        power: octet(s, at + 44),
+        connection: three_at(s, at + 45),
+        status: octet(s, at + 48),
     }
 }
 
@@ -282,8 +322,9 @@ pub fn reader_call_at(s: &[u8], at: usize) -> ReaderCall
 {
     let at = fields(s, at);
     ReaderCall {
-        destination: address_at(s, at),
-        frame: span_at(s, at + 6),
+        form: octet(s, at),
+        destination: address_at(s, at + 1),
+        frame: span_at(s, at + 7),
     }
 }
 

@@ -45,11 +45,11 @@ fn octets_end(s: &[u8], at: usize) -> usize
     behind(s, behind(s, at, 2), pair_at(s, at) as usize)
 }
 
-// A number of addresses and so many of them.
+// A number of requesters and so many of them.
 fn list_end(s: &[u8], at: usize) -> usize
     ensures { λ r. ⌜ r ≡ listEnd (now (s .entry)) at ⌝ }
 {
-    behind(s, behind(s, at, 1), 6 * size(s, at))
+    behind(s, behind(s, at, 1), 7 * size(s, at))
 }
 
 // The fields of a report call.
@@ -99,15 +99,15 @@ fn fields_end(s: &[u8], number: u8, at: usize) -> usize
     match number {
         0 => list_end(s, octets_end(s, at)),
         1 => behind(s, at, 4),
-        2 => behind(s, at, 36),
+        2 => behind(s, at, 59),
         3 => octets_end(s, behind(s, at, 16)),
         4 => report_call_end(s, at),
         5 => list_end(s, behind(s, at, 4)),
         6 => list_end(s, behind(s, at, 4)),
-        7 => octets_end(s, behind(s, at, 32)),
-        8 => behind(s, at, 26),
+        7 => octets_end(s, behind(s, at, 55)),
+        8 => behind(s, at, 49),
         16 => writer_call_end(s, at),
-        17 => octets_end(s, behind(s, at, 6)),
+        17 => octets_end(s, behind(s, at, 7)),
         18 => behind(s, octets_end(s, at), 4),
         _ => 0,
     }

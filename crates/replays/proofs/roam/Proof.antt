@@ -9,8 +9,8 @@ use Rattle.replays.proofs.roam.Tie as tie
 move-at-requires : tie.Need-move-at-requires
 move-at-requires c κs = search needs
 
-addresses-at-requires : tie.Need-addresses-at-requires
-addresses-at-requires c κs = search needs
+requesters-at-requires : tie.Need-requesters-at-requires
+requesters-at-requires c κs = search needs
 
 cast-n : tie.Need-cast-n
 cast-n c = search needs
@@ -25,14 +25,14 @@ roam-requires : tie.Need-roam-requires
 roam-requires c κs = search needs
 
 returns : tie.Need-returns
-returns c = rw (← c .before .before .before .before .before .move-at .ensures, ← c .before .before .before .addresses-at .ensures) (c .roam .ensures .0)
+returns c = rw (← c .before .before .before .before .before .move-at .ensures, ← c .before .before .before .requesters-at .ensures) (c .roam .ensures .0)
 
 pub roam-spec : {M : Type 1} → statement M
 roam-spec =
     tie.close
     (tie.spec
     move-at-requires
-    addresses-at-requires
+    requesters-at-requires
     cast-n
     array-share-prefix-list
     slice-aggregate-roam

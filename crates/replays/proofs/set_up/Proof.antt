@@ -9,8 +9,8 @@ use Rattle.replays.proofs.set_up.Tie as tie
 setup-at-requires : tie.Need-setup-at-requires
 setup-at-requires c κs = search needs
 
-addresses-at-requires : tie.Need-addresses-at-requires
-addresses-at-requires c κs = search needs
+requesters-at-requires : tie.Need-requesters-at-requires
+requesters-at-requires c κs = search needs
 
 cast-n : tie.Need-cast-n
 cast-n c = search needs
@@ -28,14 +28,14 @@ setup-requires : tie.Need-setup-requires
 setup-requires c κs = search needs
 
 returns : tie.Need-returns
-returns c = rw (← c .before .before .before .before .before .before .setup-at .ensures, ← c .before .before .before .before .addresses-at .ensures, ← c .before .before .part .ensures) (c .setup .ensures .0)
+returns c = rw (← c .before .before .before .before .before .before .setup-at .ensures, ← c .before .before .before .before .requesters-at .ensures, ← c .before .before .part .ensures) (c .setup .ensures .0)
 
 pub set-up-spec : {M : Type 1} → statement M
 set-up-spec =
     tie.close
     (tie.spec
     setup-at-requires
-    addresses-at-requires
+    requesters-at-requires
     cast-n
     part-requires
     array-share-prefix-list

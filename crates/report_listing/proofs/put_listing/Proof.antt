@@ -33,7 +33,9 @@ put-frame-requires : tie.Need-put-frame-requires
 put-frame-requires c κs = search needs
 
 put-elements-requires : tie.Need-put-elements-requires
-put-elements-requires c κs = readable _ _ _ (c .before .before .before .before .before .before .before .before .before .before .read-report .ensures) (c .before .before .before .before .before .before .before .if1 .left) .fine
+put-elements-requires c κs =
+    let r = readable _ _ _ _ (c .before .before .before .before .before .before .before .before .before .before .read-report .ensures) (c .before .before .before .before .before .before .before .if1 .left) in
+    (r .told, r .fine)
 
 same-length-2 : tie.Need-same-length-2
 same-length-2 c = search needs
@@ -41,7 +43,7 @@ same-length-2 c = search needs
 returns-2 : tie.Need-returns-2
 unfolding reportListing if_then_else_
 returns-2 c =
-    let few = readable _ _ _ (c .before .before .before .before .before .before .before .before .before .before .before .before .before .read-report .ensures) (c .before .before .before .before .before .before .before .before .before .before .if1 .left) .few in
+    let few = readable _ _ _ _ (c .before .before .before .before .before .before .before .before .before .before .before .before .before .read-report .ensures) (c .before .before .before .before .before .before .before .before .before .before .if1 .left) .few in
     rw (← c .before .before .before .before .before .before .before .before .before .before .before .before .before .read-report .ensures, eq-eqb _ _ (c .before .before .before .before .before .before .before .before .before .before .if1 .left)) (at-most reportListingMost (omega (arith, few)) (both (rw (c .before .before .before .before .before .before .before .report-action .ensures) at (c .before .before .before .before .before .before .put-frame .ensures)) (c .before .before .put-elements .ensures)))
 
 pub put-listing-spec : {M : Type 1} → statement M

@@ -10,8 +10,8 @@ use borrow.Author.Needs.{needs}
 use Rattle.report_listing.proofs.put_peer_link.Statement.{statement}
 use Rattle.report_listing.proofs.put_peer_link.Tie as tie
 
-put-time-requires : tie.Need-put-time-requires
-put-time-requires c κs = search needs
+put-times-requires : tie.Need-put-times-requires
+put-times-requires c κs = search needs
 
 slice-aggregate-put-colons : tie.Need-slice-aggregate-put-colons
 slice-aggregate-put-colons c = search needs
@@ -20,7 +20,9 @@ slice-aggregate-put-colons-2 : tie.Need-slice-aggregate-put-colons-2
 slice-aggregate-put-colons-2 c = search needs
 
 put-colons-requires : tie.Need-put-colons-requires
-put-colons-requires c κs = search needs
+put-colons-requires c κs =
+    let six : length (c .before .before .before .before .before .before .before .before .before .before .before .args .e .peer) ≡ 6 = search (needs, c .before .before .before .before .before .before .before .before .before .before .before .good) in
+    omega (arith, six)
 
 slice-aggregate-put-octet : tie.Need-slice-aggregate-put-octet
 slice-aggregate-put-octet c = search needs
@@ -56,7 +58,7 @@ put-octet-requires-4 : tie.Need-put-octet-requires-4
 put-octet-requires-4 c κs = search needs
 
 same-length : tie.Need-same-length
-same-length c = search (needs, c .before .before .before .before .before .before .before .before .before .before .before .before .before .before .before .before .before .before .before .before .before .before .before .before .before .before .before .before .before .before .before .before .before .before .put-time, c .before .before .before .before .before .before .before .before .before .before .before .before .before .before .before .before .before .before .before .before .before .before .before .before .before .before .before .before .put-colons, c .before .before .before .before .before .before .before .before .before .before .before .before .before .before .before .before .before .before .before .before .before .before .before .put-octet, c .before .before .before .before .before .before .before .before .before .before .before .before .before .before .before .before .before .before .put-octet2, c .before .before .before .before .before .before .before .before .before .before .before .before .before .put-octet3, c .before .before .before .before .before .before .before .put-size)
+same-length c = search (needs, c .before .before .before .before .before .before .before .before .before .before .before .before .before .before .before .before .before .before .before .before .before .before .before .before .before .before .before .before .before .before .before .before .before .before .put-times, c .before .before .before .before .before .before .before .before .before .before .before .before .before .before .before .before .before .before .before .before .before .before .before .before .before .before .before .before .put-colons, c .before .before .before .before .before .before .before .before .before .before .before .before .before .before .before .before .before .before .before .before .before .before .before .put-octet, c .before .before .before .before .before .before .before .before .before .before .before .before .before .before .before .before .before .before .put-octet2, c .before .before .before .before .before .before .before .before .before .before .before .before .before .put-octet3, c .before .before .before .before .before .before .before .put-size)
 
 returns : tie.Need-returns
 unfolding peerLinkText
@@ -65,13 +67,13 @@ returns c =
     let six : length (e .peer) ≡ 6 = search (needs, c .before .before .before .before .before .before .before .before .before .before .before .before .before .before .before .before .before .before .before .before .before .before .before .before .before .before .before .before .before .before .before .before .before .before .before .before .before .before .before .before .good) in
     rw (← c .before .before .before .before .before .before .before .before .three .ensures)
     (at-most eventMost (omega (arith, six))
-    (both (both (both (both (both (both (c .before .before .before .before .before .before .before .before .before .before .before .before .before .before .before .before .before .before .before .before .before .before .before .before .before .before .before .before .before .before .before .before .before .before .put-time .ensures) (c .before .before .before .before .before .before .before .before .before .before .before .before .before .before .before .before .before .before .before .before .before .before .before .before .before .before .before .before .put-colons .ensures)) (short (c .before .before .before .before .before .before .before .before .before .before .before .before .before .before .before .before .before .before .before .before .before .before .before .put-octet .ensures))) (short (c .before .before .before .before .before .before .before .before .before .before .before .before .before .before .before .before .before .before .put-octet2 .ensures))) (short (c .before .before .before .before .before .before .before .before .before .before .before .before .before .put-octet3 .ensures))) (short (c .before .before .before .before .before .before .before .put-size .ensures))) (short (c .before .before .put-octet4 .ensures))))
+    (both (both (both (both (both (both (c .before .before .before .before .before .before .before .before .before .before .before .before .before .before .before .before .before .before .before .before .before .before .before .before .before .before .before .before .before .before .before .before .before .before .put-times .ensures) (c .before .before .before .before .before .before .before .before .before .before .before .before .before .before .before .before .before .before .before .before .before .before .before .before .before .before .before .before .put-colons .ensures)) (short (c .before .before .before .before .before .before .before .before .before .before .before .before .before .before .before .before .before .before .before .before .before .before .before .put-octet .ensures))) (short (c .before .before .before .before .before .before .before .before .before .before .before .before .before .before .before .before .before .before .put-octet2 .ensures))) (short (c .before .before .before .before .before .before .before .before .before .before .before .before .before .put-octet3 .ensures))) (short (c .before .before .before .before .before .before .before .put-size .ensures))) (short (c .before .before .put-octet4 .ensures))))
 
 pub put-peer-link-spec : {M : Type 1} → statement M
 put-peer-link-spec =
     tie.close
     (tie.spec
-    put-time-requires
+    put-times-requires
     slice-aggregate-put-colons
     slice-aggregate-put-colons-2
     put-colons-requires

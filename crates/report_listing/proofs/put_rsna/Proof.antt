@@ -10,8 +10,8 @@ use borrow.Author.Needs.{needs}
 use Rattle.report_listing.proofs.put_rsna.Statement.{statement}
 use Rattle.report_listing.proofs.put_rsna.Tie as tie
 
-put-time-requires : tie.Need-put-time-requires
-put-time-requires c κs = search needs
+put-times-requires : tie.Need-put-times-requires
+put-times-requires c κs = search needs
 
 slice-aggregate-put-colons : tie.Need-slice-aggregate-put-colons
 slice-aggregate-put-colons c = search needs
@@ -20,7 +20,9 @@ slice-aggregate-put-colons-2 : tie.Need-slice-aggregate-put-colons-2
 slice-aggregate-put-colons-2 c = search needs
 
 put-colons-requires : tie.Need-put-colons-requires
-put-colons-requires c κs = search needs
+put-colons-requires c κs =
+    let six : length (c .before .before .before .before .before .before .before .before .before .before .before .before .before .args .e .target) ≡ 6 = search (needs, c .before .before .before .before .before .before .before .before .before .before .before .before .before .good) in
+    omega (arith, six)
 
 slice-aggregate-put-colons-3 : tie.Need-slice-aggregate-put-colons-3
 slice-aggregate-put-colons-3 c = search needs
@@ -55,7 +57,7 @@ put-rsn-requires : tie.Need-put-rsn-requires
 put-rsn-requires c κs = search needs
 
 same-length : tie.Need-same-length
-same-length c = search (needs, c .before .before .before .before .before .before .before .before .before .before .before .before .before .before .before .before .before .before .before .before .before .before .before .before .before .before .before .before .before .before .before .before .put-time, c .before .before .before .before .before .before .before .before .before .before .before .before .before .before .before .before .before .before .before .before .before .before .before .before .before .before .put-colons, c .before .before .before .before .before .before .before .before .before .before .before .before .before .before .before .before .before .before .before .before .put-colons2, c .before .before .before .before .before .before .before .before .before .before .before .before .before .before .before .put-octet, c .before .before .before .before .before .before .before .before .before .before .before .put-vendor, c .before .before .before .before .before .before .put-octet2)
+same-length c = search (needs, c .before .before .before .before .before .before .before .before .before .before .before .before .before .before .before .before .before .before .before .before .before .before .before .before .before .before .before .before .before .before .before .before .put-times, c .before .before .before .before .before .before .before .before .before .before .before .before .before .before .before .before .before .before .before .before .before .before .before .before .before .before .put-colons, c .before .before .before .before .before .before .before .before .before .before .before .before .before .before .before .before .before .before .before .before .put-colons2, c .before .before .before .before .before .before .before .before .before .before .before .before .before .before .before .put-octet, c .before .before .before .before .before .before .before .before .before .before .before .put-vendor, c .before .before .before .before .before .before .put-octet2)
 
 returns : tie.Need-returns
 unfolding rsnaText
@@ -64,13 +66,13 @@ returns c =
     let six : length (e .target) ≡ 6 = search (needs, c .before .before .before .before .before .before .before .before .before .before .before .before .before .before .before .before .before .before .before .before .before .before .before .before .before .before .before .before .before .before .before .before .before .before .before .before .before .before .before .before .good) in
     let four : length (e .authentication) ≡ 4 = search (needs, c .before .before .before .before .before .before .before .before .before .before .before .before .before .before .before .before .before .before .before .before .before .before .before .before .before .before .before .before .before .before .before .before .before .before .before .before .before .before .before .before .good) in
     at-most eventMost (omega (arith, six, four))
-    (both (both (both (both (both (both (c .before .before .before .before .before .before .before .before .before .before .before .before .before .before .before .before .before .before .before .before .before .before .before .before .before .before .before .before .before .before .before .before .put-time .ensures) (c .before .before .before .before .before .before .before .before .before .before .before .before .before .before .before .before .before .before .before .before .before .before .before .before .before .before .put-colons .ensures)) (c .before .before .before .before .before .before .before .before .before .before .before .before .before .before .before .before .before .before .before .before .put-colons2 .ensures)) (short (c .before .before .before .before .before .before .before .before .before .before .before .before .before .before .before .put-octet .ensures))) (c .before .before .before .before .before .before .before .before .before .before .before .put-vendor .ensures)) (short (c .before .before .before .before .before .before .put-octet2 .ensures))) (c .before .before .put-rsn .ensures))
+    (both (both (both (both (both (both (c .before .before .before .before .before .before .before .before .before .before .before .before .before .before .before .before .before .before .before .before .before .before .before .before .before .before .before .before .before .before .before .before .put-times .ensures) (c .before .before .before .before .before .before .before .before .before .before .before .before .before .before .before .before .before .before .before .before .before .before .before .before .before .before .put-colons .ensures)) (c .before .before .before .before .before .before .before .before .before .before .before .before .before .before .before .before .before .before .before .before .put-colons2 .ensures)) (short (c .before .before .before .before .before .before .before .before .before .before .before .before .before .before .before .put-octet .ensures))) (c .before .before .before .before .before .before .before .before .before .before .before .put-vendor .ensures)) (short (c .before .before .before .before .before .before .put-octet2 .ensures))) (c .before .before .put-rsn .ensures))
 
 pub put-rsna-spec : {M : Type 1} → statement M
 put-rsna-spec =
     tie.close
     (tie.spec
-    put-time-requires
+    put-times-requires
     slice-aggregate-put-colons
     slice-aggregate-put-colons-2
     put-colons-requires

@@ -15,7 +15,7 @@ use Rattle.report_reader.proofs.advance.Tie as tie
 
 returns : tie.Need-returns
 unfolding gathered verdictOf if_then_else_
-returns c s x t p e =
+returns c form s x t p e =
     let r = ap (λ (v : Verdict). v .refusal) e in
     rw (← r, ne-eqb _ 0 (c .if1 .taken))
 
@@ -27,19 +27,19 @@ add-t6 c = search needs
 
 returns-2 : tie.Need-returns-2
 unfolding gathered verdictOf if_then_else_
-returns-2 c s x t p e =
+returns-2 c form s x t p e =
     let r = ap (λ (v : Verdict). v .refusal) e in
     let f = ap (λ (v : Verdict). v .found) e in
     let n = ap (λ (v : Verdict). v .next) e in
     let k = ap (λ (w : Walk). w .count) p in
-    rw (← r, ← f, ← n, eq-eqb _ 0 (c .before .before .before .if1 .left), c .before .before .if2 .taken, c .before .none .ensures, length-append (x .elements) (elementReadAt s t ∷ []), ← k)
+    rw (← r, ← f, ← n, eq-eqb _ 0 (c .before .before .before .if1 .left), c .before .before .if2 .taken, c .before .none .ensures, length-append (x .elements) (elementReadAt form s t ∷ []), ← k)
 
 none-requires-2 : tie.Need-none-requires-2
 none-requires-2 c κs = search needs
 
 returns-3 : tie.Need-returns-3
 unfolding gathered verdictOf if_then_else_
-returns-3 c s x t p e =
+returns-3 c form s x t p e =
     let r = ap (λ (v : Verdict). v .refusal) e in
     let f = ap (λ (v : Verdict). v .found) e in
     let n = ap (λ (v : Verdict). v .next) e in

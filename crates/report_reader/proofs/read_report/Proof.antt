@@ -9,15 +9,25 @@ use borrow.Author.Needs.{needs}
 use Rattle.report_reader.proofs.read_report.Statement.{statement}
 use Rattle.report_reader.proofs.read_report.Tie as tie
 
-is-group-requires : tie.Need-is-group-requires
-is-group-requires c κs = search needs
+is-form-requires : tie.Need-is-form-requires
+is-form-requires c κs = search needs
 
 refused-report-requires : tie.Need-refused-report-requires
 refused-report-requires c κs = search needs
 
 returns : tie.Need-returns
 unfolding readReport if_then_else_
-returns c = rw (← c .before .before .is-group .ensures, c .before .if1 .taken) (c .refused-report .ensures)
+returns c = rw (← c .before .before .is-form .ensures, c .before .if1 .taken) (c .refused-report .ensures)
+
+is-group-requires : tie.Need-is-group-requires
+is-group-requires c κs = search needs
+
+refused-report-requires-2 : tie.Need-refused-report-requires-2
+refused-report-requires-2 c κs = search needs
+
+returns-2 : tie.Need-returns-2
+unfolding readReport if_then_else_
+returns-2 c = rw (← c .before .before .before .before .is-form .ensures, c .before .before .before .if1 .left, ← c .before .before .is-group .ensures, c .before .if2 .taken) (c .refused-report2 .ensures)
 
 report-action-requires : tie.Need-report-action-requires
 report-action-requires c κs = search needs
@@ -31,14 +41,14 @@ report-action-requires-2 c κs = search needs
 frame-cause-requires : tie.Need-frame-cause-requires
 frame-cause-requires c κs = search needs
 
-refused-report-requires-2 : tie.Need-refused-report-requires-2
-refused-report-requires-2 c κs = search needs
+refused-report-requires-3 : tie.Need-refused-report-requires-3
+refused-report-requires-3 c κs = search needs
 
-returns-2 : tie.Need-returns-2
+returns-3 : tie.Need-returns-3
 unfolding readReport if_then_else_
-returns-2 c =
+returns-3 c =
     let kind = c .before .before .before .before .frame-kind .ensures ∙ ap (frameKind _) (c .before .before .before .before .before .report-action .ensures) in
-    rw (← c .before .before .before .before .before .before .before .is-group .ensures, c .before .before .before .before .before .before .if1 .left, ← kind, ← c .before .before .before .report-action2 .ensures, ← c .before .before .frame-cause .ensures, ne-eqb _ _ (c .before .if2 .taken)) (c .refused-report2 .ensures)
+    rw (← c .before .before .before .before .before .before .before .before .before .is-form .ensures, c .before .before .before .before .before .before .before .before .if1 .left, ← c .before .before .before .before .before .before .before .is-group .ensures, c .before .before .before .before .before .before .if2 .left, ← kind, ← c .before .before .before .report-action2 .ensures, ← c .before .before .frame-cause .ensures, ne-eqb _ _ (c .before .if3 .taken)) (c .refused-report3 .ensures)
 
 enum-told : tie.Need-enum-told
 enum-told c = search needs
@@ -52,34 +62,37 @@ enum-told-2 c = search needs
 validated-requires-2 : tie.Need-validated-requires-2
 validated-requires-2 c κs = search needs
 
-returns-3 : tie.Need-returns-3
-unfolding readReport if_then_else_
-returns-3 c =
-    let kind = c .before .before .before .before .before .before .frame-kind .ensures ∙ ap (frameKind _) (c .before .before .before .before .before .before .before .report-action .ensures) in
-    rw (← c .before .before .before .before .before .before .before .before .before .is-group .ensures, c .before .before .before .before .before .before .before .before .if1 .left, ← kind, ← c .before .before .before .before .before .report-action2 .ensures, ← c .before .before .before .before .frame-cause .ensures, eq-eqb _ _ (c .before .before .before .if2 .left), c .before .enum-told .given .1) (c .validated .ensures)
-
 returns-4 : tie.Need-returns-4
 unfolding readReport if_then_else_
 returns-4 c =
     let kind = c .before .before .before .before .before .before .frame-kind .ensures ∙ ap (frameKind _) (c .before .before .before .before .before .before .before .report-action .ensures) in
-    rw (← c .before .before .before .before .before .before .before .before .before .is-group .ensures, c .before .before .before .before .before .before .before .before .if1 .left, ← kind, ← c .before .before .before .before .before .report-action2 .ensures, ← c .before .before .before .before .frame-cause .ensures, eq-eqb _ _ (c .before .before .before .if2 .left), c .before .enum-told2 .given .1) (c .validated2 .ensures)
+    rw (← c .before .before .before .before .before .before .before .before .before .before .before .is-form .ensures, c .before .before .before .before .before .before .before .before .before .before .if1 .left, ← c .before .before .before .before .before .before .before .before .before .is-group .ensures, c .before .before .before .before .before .before .before .before .if2 .left, ← kind, ← c .before .before .before .before .before .report-action2 .ensures, ← c .before .before .before .before .frame-cause .ensures, eq-eqb _ _ (c .before .before .before .if3 .left), c .before .enum-told .given .1) (c .validated .ensures)
+
+returns-5 : tie.Need-returns-5
+unfolding readReport if_then_else_
+returns-5 c =
+    let kind = c .before .before .before .before .before .before .frame-kind .ensures ∙ ap (frameKind _) (c .before .before .before .before .before .before .before .report-action .ensures) in
+    rw (← c .before .before .before .before .before .before .before .before .before .before .before .is-form .ensures, c .before .before .before .before .before .before .before .before .before .before .if1 .left, ← c .before .before .before .before .before .before .before .before .before .is-group .ensures, c .before .before .before .before .before .before .before .before .if2 .left, ← kind, ← c .before .before .before .before .before .report-action2 .ensures, ← c .before .before .before .before .frame-cause .ensures, eq-eqb _ _ (c .before .before .before .if3 .left), c .before .enum-told2 .given .1) (c .validated2 .ensures)
 
 pub read-report-spec : {M : Type 1} → statement M
 read-report-spec =
     tie.close
     (tie.spec
-    is-group-requires
+    is-form-requires
     refused-report-requires
     returns
+    is-group-requires
+    refused-report-requires-2
+    returns-2
     report-action-requires
     frame-kind-requires
     report-action-requires-2
     frame-cause-requires
-    refused-report-requires-2
-    returns-2
+    refused-report-requires-3
+    returns-3
     enum-told
     validated-requires
     enum-told-2
     validated-requires-2
-    returns-3
-    returns-4)
+    returns-4
+    returns-5)

@@ -9,16 +9,16 @@ use Rattle.report_reader.proofs.validate.Statement.{statement}
 use Rattle.report_reader.proofs.validate.Tie as tie
 
 abbrev Inv-loop : tie.InvT-loop
-Inv-loop s kind w₀ w = Validating s kind w
+Inv-loop form s kind w₀ w = Validating form s kind w
 
 abbrev μ-loop : tie.MeasureT-loop
-μ-loop s kind w₀ w = length s - w .at
+μ-loop form s kind w₀ w = length s - w .at
 
 none-requires : tie.Need-none-requires Inv-loop μ-loop
 none-requires c κs = search needs
 
 loop-holds : tie.Need-loop-holds Inv-loop μ-loop
-loop-holds c = rw (c .none .ensures) (validating-start _ _)
+loop-holds c = rw (c .none .ensures) (validating-start _ _ _)
 
 validate-at-requires : tie.Need-validate-at-requires Inv-loop μ-loop
 validate-at-requires c κs = search needs
@@ -29,18 +29,18 @@ advance-requires c κs = search needs
 returns : tie.Need-returns Inv-loop μ-loop
 returns c =
     let v = c .before .before .before .before .before .before .loop .inv in
-    validating-refused v (c .before .before .before .before .if1 .taken) (c .before .before .advance .ensures _ (v .read) _ (v .is) (c .before .before .before .validate-at .ensures)) (c .if2 .taken)
+    validating-refused v (c .before .before .before .before .if1 .taken) (c .before .before .advance .ensures _ _ (v .read) _ (v .is) (c .before .before .before .validate-at .ensures)) (c .if2 .taken)
 
 loop-less : tie.Need-loop-less Inv-loop μ-loop
 loop-less c =
     let v = c .before .before .before .before .before .before .loop .inv in
-    let on = validating-on v (c .before .before .before .before .if1 .taken) (c .before .before .advance .ensures _ (v .read) _ (v .is) (c .before .before .before .validate-at .ensures)) (c .if2 .left) in
+    let on = validating-on v (c .before .before .before .before .if1 .taken) (c .before .before .advance .ensures _ _ (v .read) _ (v .is) (c .before .before .before .validate-at .ensures)) (c .if2 .left) in
     omega (arith, on, c .before .before .before .before .if1 .taken)
 
 loop-again : tie.Need-loop-again Inv-loop μ-loop
 loop-again c =
     let v = c .before .before .before .before .before .before .loop .inv in
-    validating-next v (c .before .before .before .before .if1 .taken) (c .before .before .advance .ensures _ (v .read) _ (v .is) (c .before .before .before .validate-at .ensures)) (c .if2 .left)
+    validating-next v (c .before .before .before .before .if1 .taken) (c .before .before .advance .ensures _ _ (v .read) _ (v .is) (c .before .before .before .validate-at .ensures)) (c .if2 .left)
 
 returns-2 : tie.Need-returns-2 Inv-loop μ-loop
 returns-2 c = validating-end (c .before .before .loop .inv) (c .if1 .left)

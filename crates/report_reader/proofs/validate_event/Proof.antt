@@ -15,7 +15,7 @@ plain-requires c κs = search needs
 returns : tie.Need-returns
 returns c =
     let a = c .before .before .before .args in
-    rw (short-event (a .s .now) (a .at) (c .before .if1 .taken)) (c .plain .ensures (a .s .now) (a .at) (a .n) (c .before .before .before .pre .1))
+    rw (short-event (a .form) (a .s .now) (a .at) (c .before .if1 .taken)) (c .plain .ensures (a .s .now) (a .at) (a .n) (c .before .before .before .pre .1))
 
 add-if2 : tie.Need-add-if2
 add-if2 c = search needs

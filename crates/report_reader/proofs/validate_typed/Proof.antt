@@ -1,12 +1,11 @@
 -- `report_reader::validate_typed` meets its contract: each return rewrites with the tests that led there.
 -- Assumes nothing.
-use Prim.Native.Nat.{_+_, _-_}
 use mathlib.Core.Path.{sym, _∙_}
 use native.Mathlib.Omega.{arith}
 use borrow.Author.Tests.{ne-eqb, not-false}
 use Rattle.laws.specs.Choice.{if_then_else_}
 use Rattle.report_reader.specs.Reader.{typedStep}
-use Rattle.report_reader.proofs.Laws.{time-part, event-least}
+use Rattle.report_reader.proofs.Laws.{event-least}
 use borrow.Author.Needs.{needs}
 use Rattle.report_reader.proofs.validate_typed.Statement.{statement}
 use Rattle.report_reader.proofs.validate_typed.Tie as tie
@@ -27,28 +26,13 @@ returns : tie.Need-returns
 unfolding typedStep if_then_else_
 returns c = rw (ne-eqb _ 3 (c .before .before .before .before .before .pre .0), ← c .before .before .is-event-length .ensures, c .before .if1 .taken) (c .refused .ensures)
 
-add-time-at : tie.Need-add-time-at
-add-time-at c = search needs
+add-good-time-at : tie.Need-add-good-time-at
+add-good-time-at c = search needs
 
-add-time-at-2 : tie.Need-add-time-at-2
-add-time-at-2 c = search needs
-
-sub-time-at : tie.Need-sub-time-at
-sub-time-at c = search needs
-
-part-time-at-start : tie.Need-part-time-at-start
-part-time-at-start c = search needs
-
-part-time-at-end : tie.Need-part-time-at-end
-part-time-at-end c =
+good-time-at-requires : tie.Need-good-time-at-requires
+good-time-at-requires c κs =
     let a = c .before .before .before .before .args in
-    omega (arith, event-least (a .s .now) (a .at) (a .n) _ (sym (c .before .is-event-length .ensures) ∙ not-false _ (c .if1 .left)))
-
-time-at-requires : tie.Need-time-at-requires
-time-at-requires c κs = search needs
-
-good-time-requires : tie.Need-good-time-requires
-good-time-requires c κs = search needs
+    omega (arith, event-least (a .form) (a .s .now) (a .at) (a .n) _ (sym (c .before .is-event-length .ensures) ∙ not-false _ (c .if1 .left)))
 
 refused-requires-2 : tie.Need-refused-requires-2
 refused-requires-2 c κs = search needs
@@ -56,9 +40,7 @@ refused-requires-2 c κs = search needs
 returns-2 : tie.Need-returns-2
 unfolding typedStep if_then_else_
 returns-2 c =
-    let a = c .before .before .before .before .before .before .before .before .before .args in
-    let t = c .before .before .before .time-at .ensures ∙ time-part (a .s .now) (a .at + 5) (a .at + 14 - (a .at + 5)) (omega arith) in
-    rw (ne-eqb _ 3 (c .before .before .before .before .before .before .before .before .before .pre .0), ← c .before .before .before .before .before .before .is-event-length .ensures, c .before .before .before .before .before .if1 .left, ← t, ← c .before .before .good-time .ensures, c .before .if2 .taken) (c .refused2 .ensures)
+    rw (ne-eqb _ 3 (c .before .before .before .before .before .before .before .pre .0), ← c .before .before .before .before .is-event-length .ensures, c .before .before .before .if1 .left, ← c .before .before .good-time-at .ensures, c .before .if2 .taken) (c .refused2 .ensures)
 
 logged-requires : tie.Need-logged-requires
 logged-requires c κs = search needs
@@ -66,9 +48,8 @@ logged-requires c κs = search needs
 returns-3 : tie.Need-returns-3
 unfolding typedStep if_then_else_
 returns-3 c =
-    let a = c .before .before .before .before .before .before .before .before .before .args in
-    let t = c .before .before .before .time-at .ensures ∙ time-part (a .s .now) (a .at + 5) (a .at + 14 - (a .at + 5)) (omega arith) in
-    rw (ne-eqb _ 3 (c .before .before .before .before .before .before .before .before .before .pre .0), ← c .before .before .before .before .before .before .is-event-length .ensures, c .before .before .before .before .before .if1 .left, ← t, ← c .before .before .good-time .ensures, c .before .if2 .left) (c .logged .ensures (a .s .now) (a .at) (a .n) (c .before .before .before .before .before .before .before .before .before .pre .2))
+    let a = c .before .before .before .before .before .before .before .args in
+    rw (ne-eqb _ 3 (c .before .before .before .before .before .before .before .pre .0), ← c .before .before .before .before .is-event-length .ensures, c .before .before .before .if1 .left, ← c .before .before .good-time-at .ensures, c .before .if2 .left) (c .logged .ensures (a .s .now) (a .at) (a .n) (c .before .before .before .before .before .before .before .pre .2))
 
 pub validate-typed-spec : {M : Type 1} → statement M
 validate-typed-spec =
@@ -79,13 +60,8 @@ validate-typed-spec =
     is-event-length-requires
     refused-requires
     returns
-    add-time-at
-    add-time-at-2
-    sub-time-at
-    part-time-at-start
-    part-time-at-end
-    time-at-requires
-    good-time-requires
+    add-good-time-at
+    good-time-at-requires
     refused-requires-2
     returns-2
     logged-requires

@@ -2,7 +2,7 @@
 -- Assumes nothing.
 use mathlib.Core.Path.{ap, _∙_}
 use Rattle.octets.specs.declared.numbers.Kind.{Kind}
-use Rattle.report_reader.specs.Reader.{stepAt}
+use Rattle.report_reader.specs.Reader.{cursorStep}
 use Rattle.firmware.specs.Numbers.{numberedStep}
 use borrow.Author.Needs.{needs}
 use Rattle.firmware.proofs.frames.dultxibe_next_element.Statement.{statement}
@@ -24,7 +24,7 @@ returns : tie.Need-returns
 returns c =
     let a = c .before .before .before .before .before .before .args in
     rw (c .report-element .ensures, c .before .flag-number .ensures)
-    (ap numberedStep (c .before .before .before .next .ensures ∙ ap (λ (k : Kind). stepAt (a .s .now) k (a .at)) (c .before .before .before .before .kind-of .ensures)))
+    (ap numberedStep (c .before .before .before .next .ensures ∙ ap (λ (k : Kind). cursorStep (a .form) (a .s .now) k (a .at)) (c .before .before .before .before .kind-of .ensures)))
 
 pub dultxibe-next-element-spec : {M : Type 1} → statement M
 dultxibe-next-element-spec =

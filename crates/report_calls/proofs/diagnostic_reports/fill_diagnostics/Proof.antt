@@ -22,11 +22,20 @@ Inv-loop identity len buf₀ d end at₀ i₀ buf at i = (length (d .elements) �
 abbrev μ-loop : tie.MeasureT-loop
 μ-loop identity len buf₀ d end at₀ i₀ buf at i = 8 - i
 
+cast-least : tie.Need-cast-least Inv-loop μ-loop
+cast-least c = search needs
+
 least-requires : tie.Need-least-requires Inv-loop μ-loop
 least-requires c κs = search needs
 
+cast-end : tie.Need-cast-end Inv-loop μ-loop
+cast-end c = search needs
+
 loop-holds : tie.Need-loop-holds Inv-loop μ-loop
 loop-holds c = (search (needs, length-mapped), filling-start _ _ _)
+
+cast-x : tie.Need-cast-x Inv-loop μ-loop
+cast-x c = search needs
 
 mul-x : tie.Need-mul-x Inv-loop μ-loop
 mul-x c = omega (arith, c .before .before .least .ensures)
@@ -83,8 +92,11 @@ fill-diagnostics-spec =
     (tie.spec
     Inv-loop
     μ-loop
+    cast-least
     least-requires
+    cast-end
     loop-holds
+    cast-x
     mul-x
     element-copy-out-x
     sub-put-diagnostic

@@ -5,11 +5,11 @@ use borrow.Author.Needs.{needs}
 use Rattle.report_reader.proofs.decoders.peer_link_in.Statement.{statement}
 use Rattle.report_reader.proofs.decoders.peer_link_in.Tie as tie
 
-behind-requires : tie.Need-behind-requires
-behind-requires c κs = search needs
+body-in-requires : tie.Need-body-in-requires
+body-in-requires c κs = search needs
 
-time-at-requires : tie.Need-time-at-requires
-time-at-requires c κs = search needs
+times-in-requires : tie.Need-times-in-requires
+times-in-requires c κs = search needs
 
 peer-of-requires : tie.Need-peer-of-requires
 peer-of-requires c κs = search needs
@@ -32,14 +32,14 @@ status-of-requires c κs = search needs
 returns : tie.Need-returns
 unfolding peerLinkIn
 returns c =
-    rw (c .before .before .before .before .before .before .time-at .ensures, c .before .before .before .before .before .peer-of .ensures, c .before .before .before .before .class-of .ensures, c .before .before .before .channel-of .ensures, c .before .before .power-of .ensures, c .before .connection-of .ensures, c .status-of .ensures, c .before .before .before .before .before .before .before .behind .ensures)
+    rw (c .before .before .before .before .before .before .times-in .ensures, c .before .before .before .before .before .peer-of .ensures, c .before .before .before .before .class-of .ensures, c .before .before .before .channel-of .ensures, c .before .before .power-of .ensures, c .before .connection-of .ensures, c .status-of .ensures, c .before .before .before .before .before .before .before .body-in .ensures)
 
 pub peer-link-in-spec : {M : Type 1} → statement M
 peer-link-in-spec =
     tie.close
     (tie.spec
-    behind-requires
-    time-at-requires
+    body-in-requires
+    times-in-requires
     peer-of-requires
     class-of-requires
     channel-of-requires

@@ -5,8 +5,8 @@ use borrow.Author.Needs.{needs}
 use Rattle.report_reader.proofs.decoders.rsna_in.Statement.{statement}
 use Rattle.report_reader.proofs.decoders.rsna_in.Tie as tie
 
-behind-requires : tie.Need-behind-requires
-behind-requires c κs = search needs
+body-in-requires : tie.Need-body-in-requires
+body-in-requires c κs = search needs
 
 rsn-of-requires : tie.Need-rsn-of-requires
 rsn-of-requires c κs = search needs
@@ -17,8 +17,8 @@ slice-aggregate-read-at c = search needs
 read-at-requires : tie.Need-read-at-requires
 read-at-requires c κs = search needs
 
-time-at-requires : tie.Need-time-at-requires
-time-at-requires c κs = search needs
+times-in-requires : tie.Need-times-in-requires
+times-in-requires c κs = search needs
 
 target-of-requires : tie.Need-target-of-requires
 target-of-requires c κs = search needs
@@ -35,17 +35,17 @@ result-of-requires c κs = search needs
 returns : tie.Need-returns
 unfolding rsnaIn
 returns c =
-    rw (c .before .before .before .before .time-at .ensures, c .before .before .before .target-of .ensures, c .before .before .authentication-of .ensures, c .before .method-of .ensures, c .result-of .ensures, c .before .before .before .before .before .before .read-at .ensures, c .before .before .before .before .before .before .before .before .rsn-of .ensures, c .before .before .before .before .before .before .before .before .before .behind .ensures)
+    rw (c .before .before .before .before .times-in .ensures, c .before .before .before .target-of .ensures, c .before .before .authentication-of .ensures, c .before .method-of .ensures, c .result-of .ensures, c .before .before .before .before .before .before .read-at .ensures, c .before .before .before .before .before .before .before .before .rsn-of .ensures, c .before .before .before .before .before .before .before .before .before .body-in .ensures)
 
 pub rsna-in-spec : {M : Type 1} → statement M
 rsna-in-spec =
     tie.close
     (tie.spec
-    behind-requires
+    body-in-requires
     rsn-of-requires
     slice-aggregate-read-at
     read-at-requires
-    time-at-requires
+    times-in-requires
     target-of-requires
     authentication-of-requires
     method-of-requires

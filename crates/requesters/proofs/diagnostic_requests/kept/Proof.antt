@@ -25,12 +25,18 @@ Inv-loop now accepted all end i₀ elements₀ count₀ i elements count =
 abbrev μ-loop : tie.MeasureT-loop
 μ-loop now accepted all end i₀ elements₀ count₀ i elements count = end - i
 
+cast-least : tie.Need-cast-least Inv-loop μ-loop
+cast-least c = search needs
+
 least-requires : tie.Need-least-requires Inv-loop μ-loop
 least-requires c κs = search needs
 
+cast-i : tie.Need-cast-i Inv-loop μ-loop
+cast-i c = search needs
+
 loop-holds : tie.Need-loop-holds Inv-loop μ-loop
 loop-holds c =
-    let eight : length (c .before .before .before .args .d .elements) ≡ elementCapacity = search (needs, length-mapped) in (omega arith, omega arith, omega (arith, c .least .ensures), eight, eight, refl)
+    let eight : length (c .before .before .before .before .before .args .d .elements) ≡ elementCapacity = search (needs, length-mapped) in (omega arith, omega arith, omega (arith, c .before .least .ensures), eight, eight, refl)
 
 mul-x : tie.Need-mul-x Inv-loop μ-loop
 mul-x c = search needs
@@ -59,10 +65,10 @@ loop-less c = omega arith
 loop-again : tie.Need-loop-again Inv-loop μ-loop
 loop-again c =
     let l = c .before .before .before .before .loop in
-    let d = c .before .before .before .before .before .before .before .before .args .d in
-    let t = c .before .before .before .before .before .before .before .before .args .now .0 in
-    let n = c .before .before .before .before .before .least .result in
-    let size = length-within (d .elements) 8 n (l .inv .3) (d .count) (c .before .before .before .before .before .least .ensures) in
+    let d = c .before .before .before .before .before .before .before .before .before .before .args .d in
+    let t = c .before .before .before .before .before .before .before .before .before .before .args .now .0 in
+    let n = c .before .before .before .before .before .before .least .result in
+    let size = length-within (d .elements) 8 n (l .inv .3) (d .count) (c .before .before .before .before .before .before .least .ensures) in
     let x = getD (d .elements) (l .i) pastDiagnostics in
     let front = take (c .if1 .count) (c .if1 .elements) in
     let few : (c .if1 .count ≤ l .i + 1) × (c .if1 .count ≤ elementCapacity) × (length (c .if1 .elements) ≡ elementCapacity) × (front ≡ take (l .count) (l .elements) ++ onTime elapsedSince t (d .accepted .0) (x ∷ [])) =
@@ -79,11 +85,11 @@ loop-again c =
 returns : tie.Need-returns Inv-loop μ-loop
 returns c =
     let l = c .before .loop in
-    let a = c .before .before .before .before .before .args in
+    let a = c .before .before .before .before .before .before .before .args in
     let d = a .d in
-    let n = c .before .before .least .result in
-    let size = length-within (d .elements) 8 n (l .inv .3) (d .count) (c .before .before .least .ensures) in
-    (on-time-end elapsedSince (a .now .0) (d .accepted .0) (take n (d .elements)) (l .i) (take (l .count) (l .elements)) _ (omega arith) (l .inv .5) ∙ ap (λ (x : List Diagnostic). onTime elapsedSince (a .now .0) (d .accepted .0) (drop (d .first) x)) (take-within (d .elements) 8 n (l .inv .3) (d .count) (c .before .before .least .ensures)), l .inv .1)
+    let n = c .before .before .before .least .result in
+    let size = length-within (d .elements) 8 n (l .inv .3) (d .count) (c .before .before .before .least .ensures) in
+    (on-time-end elapsedSince (a .now .0) (d .accepted .0) (take n (d .elements)) (l .i) (take (l .count) (l .elements)) _ (omega arith) (l .inv .5) ∙ ap (λ (x : List Diagnostic). onTime elapsedSince (a .now .0) (d .accepted .0) (drop (d .first) x)) (take-within (d .elements) 8 n (l .inv .3) (d .count) (c .before .before .before .least .ensures)), l .inv .1)
 
 pub kept-spec : {M : Type 1} → statement M
 kept-spec =
@@ -91,7 +97,9 @@ kept-spec =
     (tie.spec
     Inv-loop
     μ-loop
+    cast-least
     least-requires
+    cast-i
     loop-holds
     mul-x
     array-copy-out-x

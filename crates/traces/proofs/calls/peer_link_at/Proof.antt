@@ -8,11 +8,11 @@ use Rattle.traces.proofs.calls.peer_link_at.Tie as tie
 fields-requires : tie.Need-fields-requires
 fields-requires c κs = search needs
 
-add-time-at : tie.Need-add-time-at
-add-time-at c = search needs
+add-times-at : tie.Need-add-times-at
+add-times-at c = search needs
 
-time-at-requires : tie.Need-time-at-requires
-time-at-requires c κs = search needs
+times-at-requires : tie.Need-times-at-requires
+times-at-requires c κs = search needs
 
 add-address-at : tie.Need-add-address-at
 add-address-at c = search needs
@@ -52,15 +52,15 @@ octet-requires-4 c κs = search needs
 
 returns : tie.Need-returns
 unfolding peerLinkFields
-returns c = rw (← c .before .before .before .before .before .before .before .fields .ensures .0, ← c .before .before .before .before .before .before .time-at .ensures, ← c .before .before .before .before .before .address-at .ensures, ← c .before .before .before .before .octet .ensures, ← c .before .before .before .octet2 .ensures, ← c .before .before .octet3 .ensures, ← c .before .three-at .ensures, ← c .octet4 .ensures)
+returns c = rw (← c .before .before .before .before .before .before .before .fields .ensures .0, ← c .before .before .before .before .before .before .times-at .ensures, ← c .before .before .before .before .before .address-at .ensures, ← c .before .before .before .before .octet .ensures, ← c .before .before .before .octet2 .ensures, ← c .before .before .octet3 .ensures, ← c .before .three-at .ensures, ← c .octet4 .ensures)
 
 pub peer-link-at-spec : {M : Type 1} → statement M
 peer-link-at-spec =
     tie.close
     (tie.spec
     fields-requires
-    add-time-at
-    time-at-requires
+    add-times-at
+    times-at-requires
     add-address-at
     address-at-requires
     add-octet

@@ -8,6 +8,12 @@ use Rattle.traces.proofs.calls.reader_call_at.Tie as tie
 fields-requires : tie.Need-fields-requires
 fields-requires c κs = search needs
 
+octet-requires : tie.Need-octet-requires
+octet-requires c κs = search needs
+
+add-address-at : tie.Need-add-address-at
+add-address-at c = search needs
+
 address-at-requires : tie.Need-address-at-requires
 address-at-requires c κs = search needs
 
@@ -19,8 +25,16 @@ span-at-requires c κs = search needs
 
 returns : tie.Need-returns
 unfolding readerFields
-returns c = rw (← c .before .before .fields .ensures .0, ← c .before .address-at .ensures, ← c .span-at .ensures .0)
+returns c = rw (← c .before .before .before .fields .ensures .0, ← c .before .before .octet .ensures, ← c .before .address-at .ensures, ← c .span-at .ensures .0)
 
 pub reader-call-at-spec : {M : Type 1} → statement M
 reader-call-at-spec =
-    tie.close (tie.spec fields-requires address-at-requires add-span-at span-at-requires returns)
+    tie.close
+    (tie.spec
+    fields-requires
+    octet-requires
+    add-address-at
+    address-at-requires
+    add-span-at
+    span-at-requires
+    returns)

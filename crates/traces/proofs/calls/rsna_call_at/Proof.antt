@@ -8,11 +8,11 @@ use Rattle.traces.proofs.calls.rsna_call_at.Tie as tie
 fields-requires : tie.Need-fields-requires
 fields-requires c κs = search needs
 
-add-time-at : tie.Need-add-time-at
-add-time-at c = search needs
+add-times-at : tie.Need-add-times-at
+add-times-at c = search needs
 
-time-at-requires : tie.Need-time-at-requires
-time-at-requires c κs = search needs
+times-at-requires : tie.Need-times-at-requires
+times-at-requires c κs = search needs
 
 add-address-at : tie.Need-add-address-at
 add-address-at c = search needs
@@ -46,15 +46,15 @@ span-at-requires c κs = search needs
 
 returns : tie.Need-returns
 unfolding rsnaFields
-returns c = rw (← c .before .before .before .before .before .before .fields .ensures .0, ← c .before .before .before .before .before .time-at .ensures, ← c .before .before .before .before .address-at .ensures, ← c .before .before .before .four-at .ensures, ← c .before .before .eight-at .ensures, ← c .before .octet .ensures, ← c .span-at .ensures .0)
+returns c = rw (← c .before .before .before .before .before .before .fields .ensures .0, ← c .before .before .before .before .before .times-at .ensures, ← c .before .before .before .before .address-at .ensures, ← c .before .before .before .four-at .ensures, ← c .before .before .eight-at .ensures, ← c .before .octet .ensures, ← c .span-at .ensures .0)
 
 pub rsna-call-at-spec : {M : Type 1} → statement M
 rsna-call-at-spec =
     tie.close
     (tie.spec
     fields-requires
-    add-time-at
-    time-at-requires
+    add-times-at
+    times-at-requires
     add-address-at
     address-at-requires
     add-four-at
