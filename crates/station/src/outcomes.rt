@@ -35,30 +35,6 @@ pub(crate) fn refused_with(station: Station, cause: u8) -> Outcome
     }
 }
 
-// The station with other requesters, and an answer.
-pub(crate) fn outcome_with(
-    g: Station,
-    requesters: [Requester; REQUESTER_CAPACITY],
-    answer: Answer,
-) -> Outcome
-    ensures { λ r. ⌜ ((buffer : List ℕ) → viewOutcome r buffer ≡ result (record { timer = view g .timer; identity = view g .identity; log = view g .log; requesters = map viewRequester (take (g .count) requesters) }) (viewAnswer answer) buffer) ⌝ }
-{
-    let timer = g.timer;
-    let identity = g.identity;
-    let log = g.log;
-    Outcome {
-        station: Station {
-            timer,
-            identity,
-            length: g.length,
-            log,
-            requesters,
-            count: g.count,
-        },
-        answer,
-    }
-}
-
 // A requester that a call leaves as it is, refused by a cause at place 0.
 pub(crate) fn left_alone(requester: Requester, cause: u8) -> Served
     ensures { λ r. ⌜ ((buffer : List ℕ) → viewServed r buffer ≡ served (viewRequester requester) (refusedFor cause) buffer) ⌝ }
