@@ -188,7 +188,7 @@ fn rsn_of(body: &[u8]) -> &[u8]
     behind(body, rsna_length(first))
 }
 
-// In its places.
+// In its places, 0 past its end.
 fn rsn_places(element: &[u8]) -> [u8; RSN_LENGTH]
     ensures { λ r. ⌜ r ≡ octetsAt (now (element .entry)) 0 rsnLength ⌝ }
 {

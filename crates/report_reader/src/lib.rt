@@ -96,8 +96,8 @@ pub struct Report {
     pub count: usize,
 }
 
-// ---- the verdict on one element, in two steps: its outline, then what it holds. Each is small enough to be inlined into the
-// loop and into the cursor's step; as one function it was a call.
+// ---- the verdict on one element, in two steps: its outline, then what it holds (as one function it
+// would not be inlined into the loop over a frame and into the cursor's step)
 
 fn refused(number: u8, place: usize) -> Verdict
     ensures { λ r. ⌜ r ≡ verdictOf (refusedStep number place) ⌝ }
@@ -174,17 +174,6 @@ fn is_event_length(form: u8, s: &[u8], at: usize, n: usize, ty: u8) -> bool
     }
 }
 
-// Is the draft's time good? It is read of a part of the frame, whose length is then a constant.
-fn good_time_at(form: u8, s: &[u8], at: usize) -> bool
-    requires { ⌜ at + 9 ≤ length (now s) ⌝ }
-    ensures { λ r. ⌜ r ≡ goodTimeAt form (now (s .entry)) at ⌝ }
-{
-    if form == DRAFT {
-        return good_time(time_at(&s[at..at + DRAFT_LENGTH], 0));
-    }
-    true
-}
-
 // A Successful report of an event type with a table, not of length 3.
 fn outline_typed(form: u8, s: &[u8], at: usize, n: usize, end: usize) -> Verdict
     requires { ⌜ (n ≡ 3 → ⊥) × (3 ≤ n) × (end ≡ at + 2 + n) × (end ≤ length (now s)) ⌝ }
@@ -231,7 +220,7 @@ fn outline_own(form: u8, s: &[u8], kind: Kind, at: usize, n: usize, end: usize) 
     }
 }
 
-// What stands at a position; of what it holds, nothing is looked at yet.
+// What stands at a position; an event's time and a diagnostic's subelements are not looked at yet.
 fn outline_at(form: u8, s: &[u8], kind: Kind, at: usize) -> Verdict
     ensures { λ r. ⌜ Outline form (now (s .entry)) kind at r (stepAt form (now (s .entry)) kind at) ⌝ }
 {
@@ -246,6 +235,17 @@ fn outline_at(form: u8, s: &[u8], kind: Kind, at: usize) -> Verdict
 }
 
 // ---- what the element holds
+
+// Is the draft's time good? It is read of a part of the frame, whose length is then a constant.
+fn good_time_at(form: u8, s: &[u8], at: usize) -> bool
+    requires { ⌜ at + 9 ≤ length (now s) ⌝ }
+    ensures { λ r. ⌜ r ≡ goodTimeAt form (now (s .entry)) at ⌝ }
+{
+    if form == DRAFT {
+        return good_time(time_at(&s[at..at + DRAFT_LENGTH], 0));
+    }
+    true
+}
 
 // An event's time.
 fn validate_time(form: u8, s: &[u8], at: usize, v: Verdict) -> Verdict
