@@ -1,4 +1,4 @@
--- `report_reader::validate_at` meets its contract: each return rewrites with the tests that led there.
+-- `report_reader::outline_at` meets its contract: each return rewrites with the tests that led there.
 -- Assumes nothing.
 use mathlib.Core.Path.{_∙_}
 use native.Mathlib.Omega.{arith}
@@ -6,10 +6,12 @@ use lib.ListN.{length}
 use borrow.Author.Tests.{eq-eqb, ne-eqb}
 use Rattle.laws.specs.Choice.{if_then_else_}
 use Rattle.octets.proofs.ElementLaws.{piece-ends}
+use Rattle.octets.specs.Refusals.{elementPastEnd}
 use Rattle.report_reader.specs.Reader.{stepAt}
+use Rattle.report_reader.proofs.Laws.{refused-outline, skipped-outline}
 use borrow.Author.Needs.{needs}
-use Rattle.report_reader.proofs.validate_at.Statement.{statement}
-use Rattle.report_reader.proofs.validate_at.Tie as tie
+use Rattle.report_reader.proofs.outline_at.Statement.{statement}
+use Rattle.report_reader.proofs.outline_at.Tie as tie
 
 piece-end-requires : tie.Need-piece-end-requires
 piece-end-requires c κs = search needs
@@ -19,7 +21,9 @@ refused-requires c κs = search needs
 
 returns : tie.Need-returns
 unfolding stepAt if_then_else_
-returns c = rw (← c .before .before .piece-end .ensures, eq-eqb _ 0 (c .before .if1 .taken)) (c .refused .ensures)
+returns c =
+    let a = c .before .before .before .before .args in
+    rw (← c .before .before .piece-end .ensures, eq-eqb _ 0 (c .before .if1 .taken)) (refused-outline (a .form) (a .s .now) (a .kind) (a .at) elementPastEnd (a .at) (c .refused .ensures))
 
 octet-requires : tie.Need-octet-requires
 octet-requires c κs = search needs
@@ -33,7 +37,8 @@ skipped-requires c κs = search needs
 returns-2 : tie.Need-returns-2
 unfolding stepAt if_then_else_
 returns-2 c =
-    rw (← c .before .before .before .before .before .piece-end .ensures, ne-eqb _ 0 (c .before .before .before .before .if1 .left), ← c .before .before .before .octet .ensures, ← c .before .before .report-id .ensures, ne-eqb _ _ (c .before .if2 .taken)) (c .skipped .ensures)
+    let a = c .before .before .before .before .before .before .before .args in
+    rw (← c .before .before .before .before .before .piece-end .ensures, ne-eqb _ 0 (c .before .before .before .before .if1 .left), ← c .before .before .before .octet .ensures, ← c .before .before .report-id .ensures, ne-eqb _ _ (c .before .if2 .taken)) (skipped-outline (a .form) (a .s .now) (a .kind) (a .at) _ (c .skipped .ensures))
 
 add-size : tie.Need-add-size
 add-size c =
@@ -44,8 +49,8 @@ add-size c =
 size-requires : tie.Need-size-requires
 size-requires c κs = search needs
 
-validate-own-requires : tie.Need-validate-own-requires
-validate-own-requires c κs =
+outline-own-requires : tie.Need-outline-own-requires
+outline-own-requires c κs =
     let a = c .before .before .before .before .before .before .before .args in
     let e = piece-ends (a .s .now) (a .at) (length (a .s .now)) (λ z. c .before .before .before .before .if1 .left (c .before .before .before .before .before .piece-end .ensures ∙ z)) in
     (omega (arith, c .size .ensures .0, e .is), omega (arith, c .before .before .before .before .before .piece-end .ensures, e .within))
@@ -53,10 +58,10 @@ validate-own-requires c κs =
 returns-3 : tie.Need-returns-3
 unfolding stepAt if_then_else_
 returns-3 c =
-    rw (← c .before .before .before .before .before .before .piece-end .ensures, ne-eqb _ 0 (c .before .before .before .before .before .if1 .left), ← c .before .before .before .before .octet .ensures, ← c .before .before .before .report-id .ensures, eq-eqb _ _ (c .before .before .if2 .left), ← c .before .size .ensures .0) (c .validate-own .ensures)
+    rw (← c .before .before .before .before .before .before .piece-end .ensures, ne-eqb _ 0 (c .before .before .before .before .before .if1 .left), ← c .before .before .before .before .octet .ensures, ← c .before .before .before .report-id .ensures, eq-eqb _ _ (c .before .before .if2 .left), ← c .before .size .ensures .0) (c .outline-own .ensures)
 
-pub validate-at-spec : {M : Type 1} → statement M
-validate-at-spec =
+pub outline-at-spec : {M : Type 1} → statement M
+outline-at-spec =
     tie.close
     (tie.spec
     piece-end-requires
@@ -68,5 +73,5 @@ validate-at-spec =
     returns-2
     add-size
     size-requires
-    validate-own-requires
+    outline-own-requires
     returns-3)
