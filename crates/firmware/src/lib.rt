@@ -3,6 +3,7 @@
 // those inside a station: a flag is a number, 0 or not.
 mod calls;
 mod elements;
+mod exports;
 mod frames;
 
 use requests::ELEMENT_CAPACITY;
