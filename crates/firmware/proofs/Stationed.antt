@@ -23,7 +23,7 @@ use Rattle.firmware.proofs.Reply as Rep
 use Rattle.firmware.proofs.Reply.Laws as Rep′
 use Rattle.firmware.proofs.Outcome as Out
 use Rattle.firmware.proofs.Outcome.Laws as Out′
-use Rattle.firmware.proofs.InPlace.{Pair, Param, mirs, function, changing, giving, Agrees, Callee, meets}
+use Rattle.firmware.proofs.InPlace.{Pair, Param, mirs, all-suit, Between, straight, straight-runs, Running, function, changing, giving, Agrees, Callee, meets}
 
 pub is-station : (r : Outcome) (v : Val) → Is Out.the-row r (v ∷ []) → Is T.the-row (r .station) (T′.lowered (r .station) ∷ [])
 is-station r v is =
@@ -55,8 +55,14 @@ stationed = record {
   makes-R = λ 𝓤 H A. LL.makes Rep.the-type Rep′.the-plain 𝓤 H A;
 }
 
--- `InPlace.antt`'s `meets` for the station
-pub in-place : {n : ℕ} (Ps : List (Param n)) {M : Type 1} (𝓤 : URA M) (H : Heap 𝓤) (A : Atoms 𝓤) (c : Clauses 𝓤 (changing stationed Ps)) (c′ : Clauses 𝓤 (giving stationed Ps)) → Given 𝓤 H A → Agrees stationed Ps 𝓤 H A c c′
-    → (𝓣 : Tables 𝓤 H) (k : ℕ) (f : Name) → Triple 𝓤 (𝓣 .C f) (Callee stationed Ps 𝓤 H A c c′)
-    → Meets 𝓤 H A (changing stationed Ps .signature) (WpFn 𝓤 H (𝓣 .C) (𝓣 .Λ) (function stationed (mirs Ps) (suc n) k (pointee (T.the-row .written)) f)) (closing 𝓤 H A (changing stationed Ps) c)
-in-place Ps 𝓤 H A c c′ W g 𝓣 k f = meets stationed Ps 𝓤 H A c c′ W g 𝓣 k (pointee (T.the-row .written)) f
+-- `InPlace.antt`'s `meets` for the station; and where the parameters are handed on as they stand
+module _ {n : ℕ} (Ps : List (Param n)) where
+  module _ (B : Between) {M : Type 1} (𝓤 : URA M) (H : Heap 𝓤) (A : Atoms 𝓤) (c : Clauses 𝓤 (changing stationed Ps B)) (c′ : Clauses 𝓤 (giving stationed Ps B)) where
+    pub in-place-by : (W : Given 𝓤 H A) → Agrees stationed Ps B 𝓤 H A c c′ → (𝓣 : Tables 𝓤 H) → Running stationed Ps B 𝓤 H A c c′ W 𝓣 → (k : ℕ) (f : Name) → Triple 𝓤 (𝓣 .C f) (Callee stationed Ps B 𝓤 H A c c′)
+        → Meets 𝓤 H A (changing stationed Ps B .signature) (WpFn 𝓤 H (𝓣 .C) (𝓣 .Λ) (function stationed (mirs Ps) B (suc n) k (pointee (T.the-row .written)) f)) (closing 𝓤 H A (changing stationed Ps B) c)
+    in-place-by W g 𝓣 run k f = meets stationed Ps B 𝓤 H A c c′ W g 𝓣 run k (pointee (T.the-row .written)) f
+
+  module _ {M : Type 1} (𝓤 : URA M) (H : Heap 𝓤) (A : Atoms 𝓤) (c : Clauses 𝓤 (changing stationed Ps (straight (mirs Ps)))) (c′ : Clauses 𝓤 (giving stationed Ps (straight (mirs Ps)))) where
+    pub in-place : Given 𝓤 H A → Agrees stationed Ps (straight (mirs Ps)) 𝓤 H A c c′ → (𝓣 : Tables 𝓤 H) (k : ℕ) (f : Name) → Triple 𝓤 (𝓣 .C f) (Callee stationed Ps (straight (mirs Ps)) 𝓤 H A c c′)
+        → Meets 𝓤 H A (changing stationed Ps (straight (mirs Ps)) .signature) (WpFn 𝓤 H (𝓣 .C) (𝓣 .Λ) (function stationed (mirs Ps) (straight (mirs Ps)) (suc n) k (pointee (T.the-row .written)) f)) (closing 𝓤 H A (changing stationed Ps (straight (mirs Ps))) c)
+    in-place W g 𝓣 = in-place-by (straight (mirs Ps)) 𝓤 H A c c′ W g 𝓣 (λ κs a are. straight-runs 𝓤 H A W (𝓣 .C) (𝓣 .Λ) (mirs Ps) _ (all-suit 𝓤 H A W Ps κs a are))

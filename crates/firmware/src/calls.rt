@@ -113,8 +113,7 @@ pub(crate) fn frame(
 }
 
 // A report of a kind for a requester, into a lent buffer.
-#[no_mangle]
-pub extern "C" fn dultxibe_report(
+pub(crate) fn report(
     g: Station,
     reading: u32,
     requester: &[u8; 6],

@@ -5,6 +5,7 @@ use crate::calls::frame;
 use crate::calls::log_peer_link;
 use crate::calls::log_rsna;
 use crate::calls::log_transition;
+use crate::calls::report;
 use crate::calls::roam;
 use crate::calls::tick;
 use events::PeerLink;
@@ -15,8 +16,9 @@ ghost use mathlib.Core.Path.{_≡_};
 ghost use mathlib.Core.List.{[]};
 ghost use Rattle.events.specs.Loggings.{transition, rsna, peerLink};
 ghost use Rattle.model.specs.Clocks.{elapsedClock};
-ghost use Rattle.model.specs.Model.{standard, clock, logging, frame, roam, change};
+ghost use Rattle.model.specs.Model.{standard, clock, logging, frame, report, roam, change};
 ghost use Rattle.model.specs.Stations.{step};
+ghost use Rattle.octets.specs.Numbers.{kindOf};
 ghost use Rattle.station.specs.Views.{view};
 ghost use Rattle.firmware.specs.Numbers.{numbered, left};
 
@@ -77,6 +79,22 @@ pub extern "C" fn dultxibe_frame(
     ensures { λ r. ⌜ left (now (g .exit)) r [] ≡ numbered (step elapsedClock standard (view (now (g .entry))) (frame reading (now (destination .entry)) (now (source .entry)) (now (o .entry)))) ⌝ }
 {
     let after = frame(*g, reading, destination, source, o);
+    *g = after.station;
+    after.reply
+}
+
+// A report of a kind for a requester, into a lent buffer.
+#[no_mangle]
+pub extern "C" fn dultxibe_report(
+    g: &mut Station,
+    reading: u32,
+    requester: &[u8; 6],
+    kind: u8,
+    buf: &mut [u8],
+) -> Reply
+    ensures { λ r. ⌜ left (now (g .exit)) r (now (buf .exit)) ≡ numbered (step elapsedClock standard (view (now (g .entry))) (report reading (now (requester .entry)) (kindOf kind) (now (buf .entry)))) ⌝ }
+{
+    let after = report(*g, reading, requester, kind, buf);
     *g = after.station;
     after.reply
 }
