@@ -1,4 +1,4 @@
-// Setup, and the calls on a station.
+// Setup, and the calls on a station by value.
 use crate::Outcome;
 use crate::Reply;
 use events::PeerLink;

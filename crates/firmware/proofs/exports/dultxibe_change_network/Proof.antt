@@ -3,11 +3,9 @@
 use mathlib.Core.List.{List, [], _∷_}
 use mir.Syntax.{w32}
 use base.Logic.{id⊢}
-use contract.Running.{givenOf, tables, tablesOf}
 use denote.Builtin.{u8, Array}
-use denote.Triple.Spec.{tripleOf}
-use denote.Triple.Table.{entered, cited}
-use Rattle.firmware.proofs.InPlace.{Param, number, sharedSlice}
+use Rattle.firmware.proofs.InPlace.{Param}
+use Rattle.firmware.proofs.Params.{number, sharedSlice}
 use Rattle.firmware.proofs.Stationed.{in-place}
 use Rattle.firmware.proofs.calls.change_network as callee
 use Rattle.firmware.proofs.calls.change_network.Symbol as callee-def
@@ -21,10 +19,7 @@ abbrev others : List (Param 1)
 others = number w32 ∷ sharedSlice 0 tt (Array u8 tt 7) ∷ []
 
 pub dultxibe-change-network-spec : {M : Type 1} → statement M
-unfolding code.routine tablesOf
+unfolding code.routine
 dultxibe-change-network-spec 𝓤 H 𝓜 𝓖 𝓡 =
-    entered 𝓤 H (tripleOf 𝓤 H (𝓖 .A) f.signature (f.spec 𝓤 H (𝓖 .A) (𝓜 .mem) (𝓡 .run)))
-    (tables 𝓤 H 𝓜 𝓡 code.env .C) (tables 𝓤 H 𝓜 𝓡 code.env .Λ) key.name code.function (code.unfolded 𝓤 H 𝓜 𝓡)
-    (in-place others 𝓤 H (𝓖 .A) (f.clauses 𝓤 H (𝓖 .A) (𝓜 .mem) (𝓡 .run)) (callee.clauses 𝓤 H (𝓖 .A) (𝓜 .mem) (𝓡 .run)) (givenOf 𝓤 H 𝓜 𝓖) (record { ghost = λ κs h a. tt; asks = λ κs h a. id⊢ 𝓤 _; says = λ κs x a y r ws. id⊢ 𝓤 _ })
-    (tablesOf 𝓤 H 𝓜 (tables 𝓤 H 𝓜 𝓡 code.env)) 3 callee-def.name
-    (cited 𝓤 H (tripleOf 𝓤 H (𝓖 .A) callee.signature (callee.spec 𝓤 H (𝓖 .A) (𝓜 .mem) (𝓡 .run))) 𝓜 𝓡 code.env callee-def.name callee-def.routine code.calls-firmware·calls·change-network (callee-thm.met 𝓤 H 𝓜 𝓖 𝓡)))
+    in-place others 𝓤 H 𝓜 𝓖 𝓡 (f.clauses 𝓤 H (𝓖 .A) (𝓜 .mem) (𝓡 .run)) (callee.clauses 𝓤 H (𝓖 .A) (𝓜 .mem) (𝓡 .run)) (record { ghost = λ κs h a. tt; asks = λ κs h a. id⊢ 𝓤 _; says = λ κs x a y r ws. id⊢ 𝓤 _ })
+    code.env key.name callee-def.name callee-def.routine (code.unfolded 𝓤 H 𝓜 𝓡) code.calls-firmware·calls·change-network (callee-thm.met 𝓤 H 𝓜 𝓖 𝓡)
