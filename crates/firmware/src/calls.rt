@@ -1,4 +1,4 @@
-// Setup, and the calls on a station.
+// Setup, and the calls on a station by value.
 use crate::Outcome;
 use crate::Reply;
 use events::PeerLink;
@@ -72,40 +72,35 @@ pub extern "C" fn dultxibe_setup(identity: &[u8], list: &[[u8; 7]]) -> Outcome
 }
 
 // A bare clock reading.
-#[no_mangle]
-pub extern "C" fn dultxibe_tick(g: Station, reading: u32) -> Outcome
+pub(crate) fn tick(g: Station, reading: u32) -> Outcome
     ensures { λ r. ⌜ viewed r [] ≡ numbered (step elapsedClock standard (view g) (clock reading)) ⌝ }
 {
     outcome_of(g.tick(Milliseconds(reading)))
 }
 
 // Logs a transition, which the reading ends.
-#[no_mangle]
-pub extern "C" fn dultxibe_log_transition(g: Station, reading: u32, t: Transition) -> Outcome
+pub(crate) fn log_transition(g: Station, reading: u32, t: Transition) -> Outcome
     ensures { λ r. ⌜ viewed r [] ≡ numbered (step elapsedClock standard (view g) (logging reading (transition t))) ⌝ }
 {
     outcome_of(g.log_transition(Milliseconds(reading), t))
 }
 
 // Logs an RSNA event, with its RSN element.
-#[no_mangle]
-pub extern "C" fn dultxibe_log_rsna(g: Station, reading: u32, e: RsnaEvent, rsn: &[u8]) -> Outcome
+pub(crate) fn log_rsna(g: Station, reading: u32, e: RsnaEvent, rsn: &[u8]) -> Outcome
     ensures { λ r. ⌜ viewed r [] ≡ numbered (step elapsedClock standard (view g) (logging reading (rsna e (now (rsn .entry))))) ⌝ }
 {
     outcome_of(g.log_rsna(Milliseconds(reading), e, rsn))
 }
 
 // Logs a peer-to-peer link event.
-#[no_mangle]
-pub extern "C" fn dultxibe_log_peer_link(g: Station, reading: u32, e: PeerLink) -> Outcome
+pub(crate) fn log_peer_link(g: Station, reading: u32, e: PeerLink) -> Outcome
     ensures { λ r. ⌜ viewed r [] ≡ numbered (step elapsedClock standard (view g) (logging reading (peerLink e))) ⌝ }
 {
     outcome_of(g.log_peer_link(Milliseconds(reading), e))
 }
 
 // A frame from a source to a destination.
-#[no_mangle]
-pub extern "C" fn dultxibe_frame(
+pub(crate) fn frame(
     g: Station,
     reading: u32,
     destination: &[u8; 6],
@@ -118,8 +113,7 @@ pub extern "C" fn dultxibe_frame(
 }
 
 // A report of a kind for a requester, into a lent buffer.
-#[no_mangle]
-pub extern "C" fn dultxibe_report(
+pub(crate) fn report(
     g: Station,
     reading: u32,
     requester: &[u8; 6],
@@ -132,16 +126,14 @@ pub extern "C" fn dultxibe_report(
 }
 
 // A move inside the network.
-#[no_mangle]
-pub extern "C" fn dultxibe_roam(g: Station, reading: u32, list: &[[u8; 7]]) -> Outcome
+pub(crate) fn roam(g: Station, reading: u32, list: &[[u8; 7]]) -> Outcome
     ensures { λ r. ⌜ viewed r [] ≡ numbered (step elapsedClock standard (view g) (roam reading (now (list .entry)))) ⌝ }
 {
     outcome_of(g.roam(Milliseconds(reading), list))
 }
 
 // A network change.
-#[no_mangle]
-pub extern "C" fn dultxibe_change_network(g: Station, reading: u32, list: &[[u8; 7]]) -> Outcome
+pub(crate) fn change_network(g: Station, reading: u32, list: &[[u8; 7]]) -> Outcome
     ensures { λ r. ⌜ viewed r [] ≡ numbered (step elapsedClock standard (view g) (change reading (now (list .entry)))) ⌝ }
 {
     outcome_of(g.change_network(Milliseconds(reading), list))

@@ -1,8 +1,9 @@
-// The C interface (include/dultxibe.h): setup, the calls on a station, the request writer and the
-// report reader, by value over structs of C's layout, with numbers for answers. No bool crosses but
-// those inside a station: a flag is a number, 0 or not.
+// The C interface (include/dultxibe.h): setup, the calls on a station, which they change in place, the
+// request writer and the report reader, over structs of C's layout, with numbers for answers. No bool
+// crosses but those inside a station: a flag is a number, 0 or not.
 mod calls;
 mod elements;
+mod exports;
 mod frames;
 
 use requests::ELEMENT_CAPACITY;

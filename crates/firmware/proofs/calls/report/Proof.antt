@@ -1,4 +1,4 @@
--- `firmware::calls::dultxibe_report` meets its contract.
+-- `firmware::calls::report` meets its contract.
 -- Assumes nothing.
 use mathlib.Core.Path.{ap, _∙_}
 use Rattle.firmware.specs.Numbers.{numbered}
@@ -8,8 +8,8 @@ use Rattle.model.specs.Model.{standard, report}
 use Rattle.model.specs.Stations.{step}
 use Rattle.station.specs.Views.{view}
 use borrow.Author.Needs.{needs}
-use Rattle.firmware.proofs.calls.dultxibe_report.Statement.{statement}
-use Rattle.firmware.proofs.calls.dultxibe_report.Tie as tie
+use Rattle.firmware.proofs.calls.report.Statement.{statement}
+use Rattle.firmware.proofs.calls.report.Tie as tie
 
 kind-of-requires : tie.Need-kind-of-requires
 kind-of-requires c κs = search needs
@@ -29,6 +29,6 @@ returns c =
     c .outcome-of .ensures _
     ∙ ap numbered (c .before .before .before .report .ensures ∙ ap (λ (k : Kind). step elapsedClock standard (view (a .g)) (report (a .reading) (a .requester .now) k (a .buf .now))) (c .before .before .before .before .before .kind-of .ensures))
 
-pub dultxibe-report-spec : {M : Type 1} → statement M
-dultxibe-report-spec =
+pub report-spec : {M : Type 1} → statement M
+report-spec =
     tie.close (tie.spec kind-of-requires report-requires outcome-of-requires same-length returns)

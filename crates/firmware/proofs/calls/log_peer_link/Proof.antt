@@ -1,11 +1,11 @@
--- `firmware::calls::dultxibe_log_peer_link` meets its contract.
+-- `firmware::calls::log_peer_link` meets its contract.
 -- Assumes nothing.
 use mathlib.Core.Path.{ap, _∙_}
 use Rattle.firmware.specs.Numbers.{numbered}
 use mathlib.Core.List.{[]}
 use borrow.Author.Needs.{needs}
-use Rattle.firmware.proofs.calls.dultxibe_log_peer_link.Statement.{statement}
-use Rattle.firmware.proofs.calls.dultxibe_log_peer_link.Tie as tie
+use Rattle.firmware.proofs.calls.log_peer_link.Statement.{statement}
+use Rattle.firmware.proofs.calls.log_peer_link.Tie as tie
 
 log-peer-link-requires : tie.Need-log-peer-link-requires
 log-peer-link-requires c κs = search needs
@@ -16,5 +16,5 @@ outcome-of-requires c κs = search needs
 returns : tie.Need-returns
 returns c = c .outcome-of .ensures [] ∙ ap numbered (c .before .log-peer-link .ensures)
 
-pub dultxibe-log-peer-link-spec : {M : Type 1} → statement M
-dultxibe-log-peer-link-spec = tie.close (tie.spec log-peer-link-requires outcome-of-requires returns)
+pub log-peer-link-spec : {M : Type 1} → statement M
+log-peer-link-spec = tie.close (tie.spec log-peer-link-requires outcome-of-requires returns)

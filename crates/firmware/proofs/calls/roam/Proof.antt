@@ -1,11 +1,11 @@
--- `firmware::calls::dultxibe_roam` meets its contract.
+-- `firmware::calls::roam` meets its contract.
 -- Assumes nothing.
 use mathlib.Core.Path.{ap, _∙_}
 use Rattle.firmware.specs.Numbers.{numbered}
 use mathlib.Core.List.{[]}
 use borrow.Author.Needs.{needs}
-use Rattle.firmware.proofs.calls.dultxibe_roam.Statement.{statement}
-use Rattle.firmware.proofs.calls.dultxibe_roam.Tie as tie
+use Rattle.firmware.proofs.calls.roam.Statement.{statement}
+use Rattle.firmware.proofs.calls.roam.Tie as tie
 
 roam-requires : tie.Need-roam-requires
 roam-requires c κs = search needs
@@ -16,5 +16,5 @@ outcome-of-requires c κs = search needs
 returns : tie.Need-returns
 returns c = c .outcome-of .ensures [] ∙ ap numbered (c .before .roam .ensures .0)
 
-pub dultxibe-roam-spec : {M : Type 1} → statement M
-dultxibe-roam-spec = tie.close (tie.spec roam-requires outcome-of-requires returns)
+pub roam-spec : {M : Type 1} → statement M
+roam-spec = tie.close (tie.spec roam-requires outcome-of-requires returns)
