@@ -1,4 +1,5 @@
 // What a call gives: a station and an answer.
+use crate::Changed;
 use crate::Outcome;
 use crate::Station;
 use octets::Refusal;
@@ -12,7 +13,7 @@ ghost use lib.ListN.{take};
 ghost use Rattle.requesters.specs.Views.{viewRequester, viewAnswer, viewServed};
 ghost use Rattle.model.specs.Stations.{result, refusedFor, served};
 ghost use Rattle.station.specs.Internal.{answerTo, acceptedOutcome};
-ghost use Rattle.station.specs.Views.{view, viewOutcome};
+ghost use Rattle.station.specs.Views.{view, viewOutcome, changedOutcome};
 
 // The answer to a call that is refused so, or by number 0: it is not.
 pub(crate) fn answer_of(refusal: Refusal) -> Answer
@@ -41,6 +42,28 @@ pub(crate) fn refused_with(station: Station, cause: u8) -> Outcome
     Outcome {
         station,
         answer: Answer::Refused(refusal),
+    }
+}
+
+// The station with what a call changes of it, and the answer.
+pub(crate) fn changed(g: Station, c: Changed) -> Outcome
+    ensures { λ r. ⌜ r ≡ changedOutcome g c ⌝ }
+{
+    let timer = c.timer;
+    let requesters = c.requesters;
+    let answer = c.answer;
+    let identity = g.identity;
+    let log = g.log;
+    Outcome {
+        station: Station {
+            timer,
+            identity,
+            length: g.length,
+            log,
+            requesters,
+            count: g.count,
+        },
+        answer,
     }
 }
 

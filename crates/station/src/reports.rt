@@ -1,7 +1,8 @@
 // Report calls.
+use crate::Changed;
 use crate::Outcome;
-use crate::Reported;
 use crate::Station;
+use crate::outcomes::changed;
 use crate::outcomes::left_alone;
 use crate::requester_lists::find;
 use crate::requester_lists::tick_requesters;
@@ -24,7 +25,7 @@ ghost use Rattle.events.specs.Log.{logged};
 ghost use Rattle.model.specs.Stations.{giveReport, step};
 ghost use Rattle.requesters.specs.Views.{viewIdentity, viewRequester, viewServed};
 ghost use Rattle.station.specs.Internal.{serveIf};
-ghost use Rattle.station.specs.Views.{view, viewOutcome, reportedOutcome};
+ghost use Rattle.station.specs.Views.{view, viewOutcome, changedOutcome};
 
 // A report for a requester that was found, or was not.
 fn serve_report(
@@ -54,8 +55,8 @@ impl Station {
         source: [u8; 6],
         kind: Kind,
         buf: &mut [u8],
-    ) -> Reported
-        ensures { λ r. ⌜ viewOutcome (reportedOutcome self r) (now (buf .exit)) ≡ step elapsedClock standard (view self) (Model·report (reading .0) source kind (now (buf .entry))) ⌝ }
+    ) -> Changed
+        ensures { λ r. ⌜ viewOutcome (changedOutcome self r) (now (buf .exit)) ≡ step elapsedClock standard (view self) (Model·report (reading .0) source kind (now (buf .entry))) ⌝ }
     {
         let before = self.timer;
         let timer = advanced(before, reading);
@@ -72,7 +73,7 @@ impl Station {
         let requester = s.requester;
         let answer = s.answer;
         requesters[at] = requester;
-        Reported {
+        Changed {
             timer,
             requesters,
             answer,
@@ -89,22 +90,6 @@ impl Station {
     ) -> Outcome
         ensures { λ r. ⌜ viewOutcome r (now (buf .exit)) ≡ step elapsedClock standard (view self) (Model·report (reading .0) source kind (now (buf .entry))) ⌝ }
     {
-        let r = self.reported(reading, source, kind, buf);
-        let timer = r.timer;
-        let requesters = r.requesters;
-        let answer = r.answer;
-        let identity = self.identity;
-        let log = self.log;
-        Outcome {
-            station: Station {
-                timer,
-                identity,
-                length: self.length,
-                log,
-                requesters,
-                count: self.count,
-            },
-            answer,
-        }
+        changed(self, self.reported(reading, source, kind, buf))
     }
 }

@@ -4,15 +4,19 @@ use borrow.Author.Needs.{needs}
 use Rattle.station.proofs.Station.report.Statement.{statement}
 use Rattle.station.proofs.Station.report.Tie as tie
 use Rattle.station.proofs.Station.reported.Reads as reported-reads
+use Rattle.station.proofs.outcomes.changed.Reads as changed-reads
 
 reported-requires : tie.Need-reported-requires
 reported-requires c κs = search needs
+
+changed-requires : tie.Need-changed-requires
+changed-requires c κs = search needs
 
 same-length : tie.Need-same-length
 same-length c = search needs
 
 returns : tie.Need-returns
-returns c = c .before .before .before .before .before .before .reported .ensures
+returns c = rw (c .changed .ensures) (c .before .before .before .reported .ensures)
 
 pub report-spec : {M : Type 1} → statement M
-report-spec = tie.close (tie.spec reported-requires same-length returns)
+report-spec = tie.close (tie.spec reported-requires changed-requires same-length returns)
