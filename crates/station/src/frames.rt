@@ -2,6 +2,7 @@
 use crate::Outcome;
 use crate::Station;
 use crate::clock::ticked;
+use crate::outcomes::answer_of;
 use crate::requester_lists::find;
 use events::LOG_CAPACITY;
 use events::Log;
@@ -11,7 +12,6 @@ use octets::Refusal;
 use octets::causes;
 use octets::is_group;
 use octets::least;
-use requesters::Answer;
 use requesters::new_diagnostics;
 use requesters::new_events;
 use requesters::renews_diagnostics;
@@ -26,8 +26,7 @@ ghost use Rattle.events.specs.Log.{logged as Log·logged};
 ghost use Rattle.model.specs.Clocks.{elapsedClock};
 ghost use Rattle.model.specs.Model.{standard, frame};
 ghost use Rattle.model.specs.Stations.{requestCall, step};
-ghost use Rattle.requesters.specs.Views.{viewAnswer};
-ghost use Rattle.station.specs.Internal.{frameRefusal, answerToFrame};
+ghost use Rattle.station.specs.Internal.{frameRefusal};
 ghost use Rattle.station.specs.Views.{view, viewOutcome};
 
 // How many entries are logged.
@@ -49,15 +48,6 @@ fn frame_refusal(destination: [u8; 6], found: bool, read: Refusal) -> Refusal
         return Refusal::new(causes::UNKNOWN_REQUESTER, 0);
     }
     read
-}
-
-fn answer_of(refusal: Refusal) -> Answer
-    ensures { λ r. ⌜ viewAnswer r ≡ answerToFrame refusal ⌝ }
-{
-    if refusal.number != 0 {
-        return Answer::Refused(refusal);
-    }
-    Answer::Accepted
 }
 
 // A request from a source to a destination, which its reader may have refused. A source that finds no
