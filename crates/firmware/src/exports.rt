@@ -95,7 +95,8 @@ pub extern "C" fn dultxibe_report(
     ensures { λ r. ⌜ left (now (g .exit)) r (now (buf .exit)) ≡ numbered (step elapsedClock standard (view (now (g .entry))) (report reading (now (requester .entry)) (kindOf kind) (now (buf .entry)))) ⌝ }
 {
     let after = report(*g, reading, requester, kind, buf);
-    *g = after.station;
+    g.timer = after.timer;
+    g.requesters = after.requesters;
     after.reply
 }
 
