@@ -1,5 +1,5 @@
--- A function that changes a struct in place by a call. It reads the struct behind its first parameter whole, hands it with its other parameters to a function that gives the struct after it and an answer, stores the one and returns the other; and it meets its contract where the callee's says the same.
--- One walk of the MIR carries it (`changes`), whatever the struct's types are and the other parameters (`Locals.antt`), so nothing of the struct is spelled; `meets` takes it to the contract, and `exported` to the function's routine.
+-- A function that changes a struct in place by a call. It reads the struct behind its first parameter whole, hands it with its other parameters to a function, stores in the struct what that gives of it (all of it, or two fields), and returns the answer that it gives; and it meets its contract where the callee's says the same.
+-- One walk of the MIR carries it (`changes`), whatever the struct's types are, the other parameters (`Locals.antt`) and the stores (`Stores`), so nothing of the struct is spelled; `meets` takes it to the contract, and `exported` to the function's routine.
 -- Assumes `Given`, the rules of the logic's calculus, which each function's theorem has.
 use mathlib.Core.Path.{_≡_, refl, sym, subst, ap}
 use Prim.Native.Nat.{ℕ, zero, suc}
@@ -18,7 +18,7 @@ use prog.Memory.{fieldAt}
 use prog.Wp.{Heap, Env, spotOf, Calls, Loops, WpFn, Tables, Closed}
 use ghost.Atoms.{Atoms, sem}
 use sound.WpLaws.{FmC, fmOf, WpFn-mono}
-use types.Kit.{Given, Item, ‵, raw, given, ⋆, _⊛_, some, later, _$_, _∵_, !, qed, by, move, drop, use0, use1, split, join, pick, rewrite, learn, check, fjoin, fjoin3, fsplit, fsplit3, feqI, suffices, each, await, done, Post, Go, runs, Seq}
+use types.Kit.{Given, Item, ‵, raw, given, ⋆, _⊛_, some, later, _$_, _∵_, !, qed, by, move, drop, use0, use1, split, join, pick, rewrite, learn, check, fjoin, fjoin3, fsplit, fsplit3, feqI, suffices, await, done, Post, Go, runs, Seq}
 use types.Run.{Opds, look, init, store, forget, stop, hop, fld, from, load, of-opd, and-then, assigns, land, returns, enter, alloc1, alloc0, params1, pass1, free1, free0}
 use types.Part.{whole, sub, look-in, store-in}
 use types.SemTy.{Body}
@@ -62,16 +62,16 @@ abbrev pub store-two : ℕ → ℕ → Ty → ℕ → Code → Code
 store-two i j σ p s =
     seq (assign (place 1 (deref σ ∷ field i ∷ [])) (rvOpd (copy (place p (field 0 ∷ []))))) (seq (assign (place 1 (deref σ ∷ field j ∷ [])) (rvOpd (copy (place p (field 1 ∷ []))))) (seq (assign (place 0 []) (rvOpd (copy (place p (field 2 ∷ []))))) s))
 
-module _ {M : Type 1} (𝓤 : URA M) (H : Heap 𝓤) (A : Atoms 𝓤) (W : Given 𝓤 H A) (ν : Sym) (ρ : Ty) (y : Val) where
-  pub stores-whole : (σ : Ty) (x x′ : Val) → T (hasTy (tyStruct ν (tcons σ (tcons ρ tnil))) (vstruct (vcons x′ (vcons y vnil)))) × WT (vstruct (vcons x′ (vcons y vnil))) → Stores 𝓤 H A W (store-whole σ) σ ρ (tyStruct ν (tcons σ (tcons ρ tnil))) x x′ y (vstruct (vcons x′ (vcons y vnil)))
-  stores-whole σ x x′ wt C Λ E p τ l₀ l₁ l₂ b o e₀ e₁ eₚ Γ rest q k =
+module _ {M : Type 1} (𝓤 : URA M) (H : Heap 𝓤) (A : Atoms 𝓤) (W : Given 𝓤 H A) {ν : Sym} {ρ : Ty} {y : Val} where
+  pub stores-whole : {σ : Ty} {x x′ : Val} → T (hasTy (tyStruct ν (tcons σ (tcons ρ tnil))) (vstruct (vcons x′ (vcons y vnil)))) × WT (vstruct (vcons x′ (vcons y vnil))) → Stores 𝓤 H A W (store-whole σ) σ ρ (tyStruct ν (tcons σ (tcons ρ tnil))) x x′ y (vstruct (vcons x′ (vcons y vnil)))
+  stores-whole {σ} {x} {x′} wt C Λ E p τ l₀ l₁ l₂ b o e₀ e₁ eₚ Γ rest q k =
       assigns ! (of-opd ! (load ! (found ! eₚ (fld ! refl (stop !))) (look-in ! 2 (sub ! 0 refl (whole !))))) (found ! e₁ (hop ! (look ! 1 refl) (stop !))) (store ! 0 refl (and-l (hasTy σ x′) _ (wt .0), wt .1 .0)) $
       assigns ! (of-opd ! (load ! (found ! eₚ (fld ! refl (stop !))) (look-in ! 2 (sub ! 1 refl (whole !))))) (found ! e₀ (stop !)) (init ! 3 refl (and-l (hasTy ρ y) _ (and-r (hasTy σ x′) _ (wt .0)), wt .1 .1 .0)) $ k
 
-  pub stores-two : (μ : Sym) (τs : Tys) (xs : Vals) (i j : ℕ) (α β : Ty) (d e : ℕ) (u v : Val) → fieldAt zero τs i ≡ just (α, d) → fieldAt zero τs j ≡ just (β, e)
+  pub stores-two : (i j : ℕ) {μ : Sym} {τs : Tys} {xs : Vals} {α β : Ty} {d e : ℕ} {u v : Val} → fieldAt zero τs i ≡ just (α, d) → fieldAt zero τs j ≡ just (β, e)
       → T (hasTy (tyStruct ν (tcons α (tcons β (tcons ρ tnil)))) (vstruct (vcons u (vcons v (vcons y vnil))))) × WT (vstruct (vcons u (vcons v (vcons y vnil))))
       → Stores 𝓤 H A W (store-two i j (tyStruct μ τs)) (tyStruct μ τs) ρ (tyStruct ν (tcons α (tcons β (tcons ρ tnil)))) (vstruct xs) (vstruct (setV (setV xs i u) j v)) y (vstruct (vcons u (vcons v (vcons y vnil))))
-  stores-two μ τs xs i j α β d e u v at-i at-j wt C Λ E p τ l₀ l₁ l₂ b o e₀ e₁ eₚ Γ rest q k =
+  stores-two i j {μ} {τs} {xs} {α} {β} {d} {e} {u} {v} at-i at-j wt C Λ E p τ l₀ l₁ l₂ b o e₀ e₁ eₚ Γ rest q k =
       assigns ! (of-opd ! (load ! (found ! eₚ (fld ! refl (stop !))) (look-in ! 2 (sub ! 0 refl (whole !))))) (found ! e₁ (hop ! (look ! 1 refl) (fld ! at-i (stop !)))) (store-in ! 0 (sub ! i at-i (whole !)) (and-l (hasTy α u) _ (wt .0), wt .1 .0)) $
       assigns ! (of-opd ! (load ! (found ! eₚ (fld ! refl (stop !))) (look-in ! 2 (sub ! 1 refl (whole !))))) (found ! e₁ (hop ! (look ! 1 refl) (fld ! at-j (stop !)))) (store-in ! 0 (sub ! j at-j (whole !)) (and-l (hasTy β v) _ (and-r (hasTy α u) _ (wt .0)), wt .1 .1 .0)) $
       assigns ! (of-opd ! (load ! (found ! eₚ (fld ! refl (stop !))) (look-in ! 2 (sub ! 2 refl (whole !))))) (found ! e₀ (stop !)) (init ! 3 refl (and-l (hasTy ρ y) _ (and-r (hasTy β v) _ (and-r (hasTy α u) _ (wt .0))), wt .1 .1 .1 .0)) $ k

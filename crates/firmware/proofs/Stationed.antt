@@ -46,7 +46,7 @@ stationed = record {
   makes-S = λ 𝓤 H A. LL.makes T.the-type T′.the-plain 𝓤 H A;
   makes-R = λ 𝓤 H A. LL.makes Rep.the-type Rep′.the-plain 𝓤 H A;
   code = store-whole (T′.lowers .mir);
-  stores = λ 𝓤 H A W d r. stores-whole 𝓤 H A W (Out.struct .name) (Rep′.lowers .mir) (Rep′.lowered (r .reply)) (T′.lowers .mir) (T′.lowered d) (T′.lowered (r .station));
+  stores = λ 𝓤 H A W d r. stores-whole 𝓤 H A W;
 }
 
 -- `InPlace.antt`'s `exported` for the station, where the parameters are handed on as they stand

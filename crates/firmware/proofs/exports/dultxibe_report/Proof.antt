@@ -67,7 +67,7 @@ reporting = record {
   makes-S = stationed .makes-S;
   makes-R = stationed .makes-R;
   code = store-two 0 4 (T′.lowers .mir);
-  stores = λ 𝓤 H A W g r. stores-two 𝓤 H A W _ _ _ _ _ _ 0 4 _ _ _ _ _ _ refl refl;
+  stores = λ 𝓤 H A W g r. stores-two 𝓤 H A W 0 4 refl refl;
 }
 
 abbrev others : List (Param 2)
