@@ -25,7 +25,6 @@ use denote.Laws.{Typed}
 use denote.Lowered.{Lowered}
 use denote.Memory.{pointee}
 use denote.Plain.{UInt, uint-tells, uint-lawful}
-use denote.Steps.{nothing}
 use denote.Triple.Walked.{stay-dropped, gave-slice, goes-dropped, goes-gave-slice}
 use Rattle.firmware.proofs.InPlace.{Passed, Param}
 

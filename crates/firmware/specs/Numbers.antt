@@ -20,6 +20,7 @@ use Rattle.report_reader.specs.declared.Element.{Element as Reader·Element}
 use Rattle.report_reader.specs.declared.Step.{Step as Reader·Step}
 use Rattle.firmware.specs.declared.Reply.{Reply}
 use Rattle.firmware.specs.declared.Outcome.{Outcome}
+use Rattle.firmware.specs.declared.Reported.{Reported}
 use Rattle.firmware.specs.declared.Condition.{Condition}
 use Rattle.firmware.specs.declared.RequestElement.{RequestElement}
 use Rattle.firmware.specs.declared.Report.{Report}
@@ -68,6 +69,11 @@ left station reply buffer = record { station = view station; reply = reply; buff
 
 abbrev pub viewed : Outcome → List ℕ → Numbered
 viewed o buffer = left (o .station) (o .reply) buffer
+
+-- a station with what a report call changes of it, and the reply
+abbrev pub withReported : Library·Station → Reported → Outcome
+withReported g r =
+    record { station = record { timer = r .timer; identity = g .identity; length = g .length; log = g .log; requesters = r .requesters; count = g .count }; reply = r .reply }
 
 -- ---- what the request writer takes: the library's elements
 

@@ -1,6 +1,7 @@
 // Setup, and the calls on a station by value.
 use crate::Outcome;
 use crate::Reply;
+use crate::Reported;
 use events::PeerLink;
 use events::RsnaEvent;
 use events::Transition;
@@ -18,7 +19,7 @@ ghost use Rattle.model.specs.Model.{standard, clock, logging, frame, report, ro
 ghost use Rattle.model.specs.Stations.{setup, step};
 ghost use Rattle.octets.specs.Numbers.{kindOf};
 ghost use Rattle.station.specs.Views.{view, viewOutcome};
-ghost use Rattle.firmware.specs.Numbers.{numbered, replyTo, viewed};
+ghost use Rattle.firmware.specs.Numbers.{numbered, replyTo, viewed, withReported};
 
 // The numbers of an answer.
 fn reply_to(answer: Answer) -> Reply
@@ -112,17 +113,25 @@ pub(crate) fn frame(
     outcome_of(g.take_frame(Milliseconds(reading), *destination, *source, o))
 }
 
-// A report of a kind for a requester, into a lent buffer.
+// What a report of a kind for a requester, into a lent buffer, changes.
 pub(crate) fn report(
     g: Station,
     reading: u32,
     requester: &[u8; 6],
     kind: u8,
     buf: &mut [u8],
-) -> Outcome
-    ensures { λ r. ⌜ viewed r (now (buf .exit)) ≡ numbered (step elapsedClock standard (view g) (report reading (now (requester .entry)) (kindOf kind) (now (buf .entry)))) ⌝ }
+) -> Reported
+    ensures { λ r. ⌜ viewed (withReported g r) (now (buf .exit)) ≡ numbered (step elapsedClock standard (view g) (report reading (now (requester .entry)) (kindOf kind) (now (buf .entry)))) ⌝ }
 {
-    outcome_of(g.report(Milliseconds(reading), *requester, kind_of(kind), buf))
+    let r = g.reported(Milliseconds(reading), *requester, kind_of(kind), buf);
+    let timer = r.timer;
+    let requesters = r.requesters;
+    let answer = r.answer;
+    Reported {
+        timer,
+        requesters,
+        reply: reply_to(answer),
+    }
 }
 
 // A move inside the network.

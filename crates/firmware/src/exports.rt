@@ -83,7 +83,8 @@ pub extern "C" fn dultxibe_frame(
     after.reply
 }
 
-// A report of a kind for a requester, into a lent buffer.
+// A report of a kind for a requester, into a lent buffer. What it changes is stored alone: the compiler
+// cannot tell that the buffer lies outside the station, and would copy the log out and back.
 #[no_mangle]
 pub extern "C" fn dultxibe_report(
     g: &mut Station,
@@ -95,7 +96,8 @@ pub extern "C" fn dultxibe_report(
     ensures { λ r. ⌜ left (now (g .exit)) r (now (buf .exit)) ≡ numbered (step elapsedClock standard (view (now (g .entry))) (report reading (now (requester .entry)) (kindOf kind) (now (buf .entry)))) ⌝ }
 {
     let after = report(*g, reading, requester, kind, buf);
-    *g = after.station;
+    g.timer = after.timer;
+    g.requesters = after.requesters;
     after.reply
 }
 

@@ -6,8 +6,11 @@ mod elements;
 mod exports;
 mod frames;
 
+use model::REQUESTER_CAPACITY;
+use requesters::Requester;
 use requests::ELEMENT_CAPACITY;
 use station::Station;
+use station::Timer;
 
 // An answer: code 0 accepted, 1 nothing, 2 a frame of a length, 3 refused by a cause at a place. What
 // an answer does not have is 0.
@@ -23,6 +26,13 @@ pub struct Reply {
 #[repr(C)]
 pub struct Outcome {
     pub station: Station,
+    pub reply: Reply,
+}
+
+// What a report call changes of a station, and the answer.
+pub struct Reported {
+    pub timer: Timer,
+    pub requesters: [Requester; REQUESTER_CAPACITY],
     pub reply: Reply,
 }
 
