@@ -20,7 +20,7 @@ use Rattle.report_reader.specs.declared.Element.{Element as Reader·Element}
 use Rattle.report_reader.specs.declared.Step.{Step as Reader·Step}
 use Rattle.firmware.specs.declared.Reply.{Reply}
 use Rattle.firmware.specs.declared.Outcome.{Outcome}
-use Rattle.firmware.specs.declared.Reported.{Reported}
+use Rattle.firmware.specs.declared.Changed.{Changed}
 use Rattle.firmware.specs.declared.Condition.{Condition}
 use Rattle.firmware.specs.declared.RequestElement.{RequestElement}
 use Rattle.firmware.specs.declared.Report.{Report}
@@ -70,10 +70,10 @@ left station reply buffer = record { station = view station; reply = reply; buff
 abbrev pub viewed : Outcome → List ℕ → Numbered
 viewed o buffer = left (o .station) (o .reply) buffer
 
--- a station with what a report call changes of it, and the reply
-abbrev pub withReported : Library·Station → Reported → Outcome
-withReported g r =
-    record { station = record { timer = r .timer; identity = g .identity; length = g .length; log = g .log; requesters = r .requesters; count = g .count }; reply = r .reply }
+-- a station with what a frame or a report call changes of it, and the reply
+abbrev pub withChanged : Library·Station → Changed → Outcome
+withChanged g c =
+    record { station = record { timer = c .timer; identity = g .identity; length = g .length; log = g .log; requesters = c .requesters; count = g .count }; reply = c .reply }
 
 -- ---- what the request writer takes: the library's elements
 

@@ -1,7 +1,7 @@
 // Setup, and the calls on a station by value.
+use crate::Changed;
 use crate::Outcome;
 use crate::Reply;
-use crate::Reported;
 use events::PeerLink;
 use events::RsnaEvent;
 use events::Transition;
@@ -18,8 +18,9 @@ ghost use Rattle.model.specs.Clocks.{elapsedClock};
 ghost use Rattle.model.specs.Model.{standard, clock, logging, frame, report, roam, change};
 ghost use Rattle.model.specs.Stations.{setup, step};
 ghost use Rattle.octets.specs.Numbers.{kindOf};
-ghost use Rattle.station.specs.Views.{view, viewOutcome};
-ghost use Rattle.firmware.specs.Numbers.{numbered, replyTo, viewed, withReported};
+ghost use Rattle.station.specs.declared.Station.{Station as Library·Station};
+ghost use Rattle.station.specs.Views.{view, viewOutcome, changedOutcome};
+ghost use Rattle.firmware.specs.Numbers.{numbered, replyTo, viewed, withChanged};
 
 // The numbers of an answer.
 fn reply_to(answer: Answer) -> Reply
@@ -64,6 +65,19 @@ fn outcome_of(o: station::Outcome) -> Outcome
     }
 }
 
+fn changed_of(c: station::Changed) -> Changed
+    ensures { λ r. ⌜ ((g : Library·Station) (buffer : List ℕ) → viewed (withChanged g r) buffer ≡ numbered (viewOutcome (changedOutcome g c) buffer)) ⌝ }
+{
+    let timer = c.timer;
+    let requesters = c.requesters;
+    let answer = c.answer;
+    Changed {
+        timer,
+        requesters,
+        reply: reply_to(answer),
+    }
+}
+
 // Names the identity and the requesters.
 #[no_mangle]
 pub extern "C" fn dultxibe_setup(identity: &[u8], list: &[[u8; 7]]) -> Outcome
@@ -100,17 +114,17 @@ pub(crate) fn log_peer_link(g: Station, reading: u32, e: PeerLink) -> Outcome
     outcome_of(g.log_peer_link(Milliseconds(reading), e))
 }
 
-// A frame from a source to a destination.
+// What a frame from a source to a destination changes.
 pub(crate) fn frame(
     g: Station,
     reading: u32,
     destination: &[u8; 6],
     source: &[u8; 6],
     o: &[u8],
-) -> Outcome
-    ensures { λ r. ⌜ viewed r [] ≡ numbered (step elapsedClock standard (view g) (frame reading (now (destination .entry)) (now (source .entry)) (now (o .entry)))) ⌝ }
+) -> Changed
+    ensures { λ r. ⌜ viewed (withChanged g r) [] ≡ numbered (step elapsedClock standard (view g) (frame reading (now (destination .entry)) (now (source .entry)) (now (o .entry)))) ⌝ }
 {
-    outcome_of(g.take_frame(Milliseconds(reading), *destination, *source, o))
+    changed_of(g.framed(Milliseconds(reading), *destination, *source, o))
 }
 
 // What a report of a kind for a requester, into a lent buffer, changes.
@@ -120,18 +134,10 @@ pub(crate) fn report(
     requester: &[u8; 6],
     kind: u8,
     buf: &mut [u8],
-) -> Reported
-    ensures { λ r. ⌜ viewed (withReported g r) (now (buf .exit)) ≡ numbered (step elapsedClock standard (view g) (report reading (now (requester .entry)) (kindOf kind) (now (buf .entry)))) ⌝ }
+) -> Changed
+    ensures { λ r. ⌜ viewed (withChanged g r) (now (buf .exit)) ≡ numbered (step elapsedClock standard (view g) (report reading (now (requester .entry)) (kindOf kind) (now (buf .entry)))) ⌝ }
 {
-    let r = g.reported(Milliseconds(reading), *requester, kind_of(kind), buf);
-    let timer = r.timer;
-    let requesters = r.requesters;
-    let answer = r.answer;
-    Reported {
-        timer,
-        requesters,
-        reply: reply_to(answer),
-    }
+    changed_of(g.reported(Milliseconds(reading), *requester, kind_of(kind), buf))
 }
 
 // A move inside the network.

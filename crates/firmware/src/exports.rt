@@ -79,7 +79,8 @@ pub extern "C" fn dultxibe_frame(
     ensures { λ r. ⌜ left (now (g .exit)) r [] ≡ numbered (step elapsedClock standard (view (now (g .entry))) (frame reading (now (destination .entry)) (now (source .entry)) (now (o .entry)))) ⌝ }
 {
     let after = frame(*g, reading, destination, source, o);
-    *g = after.station;
+    g.timer = after.timer;
+    g.requesters = after.requesters;
     after.reply
 }
 

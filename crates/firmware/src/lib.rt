@@ -29,8 +29,8 @@ pub struct Outcome {
     pub reply: Reply,
 }
 
-// What a report call changes of a station, and the answer.
-pub struct Reported {
+// What a frame or a report call changes of a station, and the answer.
+pub struct Changed {
     pub timer: Timer,
     pub requesters: [Requester; REQUESTER_CAPACITY],
     pub reply: Reply,

@@ -141,21 +141,21 @@ module _ (g : Code·Station) (reading : ℕ) (l : List Listed) (r : Renaming) (i
         ap (λ (v : Station). result v (viewAnswer (o .answer)) []) (ap view late ∙ view-ticked g reading (r .requesters) (drops .1))
         ∙ ap (λ (a : Answer). result (tick elapsedClock reading (view g)) a []) turned
 
-    pub renames-refused : (log : List Entry) → viewOutcome o [] ≡ rename standard log l (tick elapsedClock reading (view g))
+    renames-refused : (log : List Entry) → viewOutcome o [] ≡ rename standard log l (tick elapsedClock reading (view g))
     unfolding view timed withoutLate
     renames-refused log = renames-late ∙ rename-refused log l (tick elapsedClock reading (view g)) (g .length) (g .identity) refl (λ f. z (is .caused ∙ f))
 
-    pub renames-nothing : (x : Code·Station) → Leaves o x
+    renames-nothing : (x : Code·Station) → Leaves o x
     renames-nothing x = refused-leaves o x _ _ renames-late
 
   module _ (e : r .cause ≡ 0) (log : Log) (s : o .station ≡ withRenaming g r log) where
     renames-all : o .station ≡ renamedStation g reading log l
     renames-all = s ∙ rw (is .timed, is .named e .0, is .named e .1)
 
-    pub renames-leaves : Leaves o (renamedStation g reading log l)
+    renames-leaves : Leaves o (renamedStation g reading log l)
     renames-leaves _ = renames-all
 
-    pub renames-taken : viewOutcome o [] ≡ rename standard (logged log) l (tick elapsedClock reading (view g))
+    renames-taken : viewOutcome o [] ≡ rename standard (logged log) l (tick elapsedClock reading (view g))
     unfolding viewOutcome view viewTimer timed withoutLate answerTo if_then_else_
     renames-taken =
         let takes = rename-takes (g .length) l (sym (is .caused) ∙ e) in
@@ -165,14 +165,25 @@ module _ (g : Code·Station) (reading : ℕ) (l : List Listed) (r : Renaming) (i
         ∙ ap (λ (a : Answer). result (newStation (viewTimer (advancedTimer (g .timer) reading)) (take (g .length) (g .identity)) (logged log) l) a []) taken
         ∙ rename-some (logged log) l (tick elapsedClock reading (view g)) _ (takes .0) (view-some (g .length) (g .identity) (takes .1))
 
-  -- with the log that it had: refused or taken
-  module _ (s : o .station ≡ withRenaming g r (g .log)) where
-    pub roamed : (viewOutcome o [] ≡ rename standard (logged (g .log)) l (tick elapsedClock reading (view g))) × Leaves o (renamedStation g reading (g .log) l)
-    roamed = go (eqb (r .cause) 0) refl
-      where
-        go : (b : Bool) → eqb (r .cause) 0 ≡ b → (viewOutcome o [] ≡ rename standard (logged (g .log)) l (tick elapsedClock reading (view g))) × Leaves o (renamedStation g reading (g .log) l)
-        go true h = let e = eqb-true (r .cause) 0 h in (renames-taken e (g .log) s, renames-leaves e (g .log) s)
-        go false h = let z = eqb-false (r .cause) 0 h in (renames-refused z s (logged (g .log)), renames-nothing z s (renamedStation g reading (g .log) l))
+  -- refused, with the log that it had, or taken with a log, by the cause
+  pub renames : (log : Log) → o .station ≡ withRenaming g r (if eqb (r .cause) 0 then log else g .log)
+      → (viewOutcome o [] ≡ rename standard (logged log) l (tick elapsedClock reading (view g))) × Leaves o (renamedStation g reading log l)
+  unfolding if_then_else_
+  renames log = go (eqb (r .cause) 0) refl
+    where
+      go : (b : Bool) → eqb (r .cause) 0 ≡ b → o .station ≡ withRenaming g r (if b then log else g .log)
+          → (viewOutcome o [] ≡ rename standard (logged log) l (tick elapsedClock reading (view g))) × Leaves o (renamedStation g reading log l)
+      go true h s = let e = eqb-true (r .cause) 0 h in (renames-taken e log s, renames-leaves e log s)
+      go false h s = let z = eqb-false (r .cause) 0 h in (renames-refused z s (logged log), renames-nothing z s (renamedStation g reading log l))
+
+  -- with the log that it had in any case
+  pub roams : o .station ≡ withRenaming g r (g .log) → (viewOutcome o [] ≡ rename standard (logged (g .log)) l (tick elapsedClock reading (view g))) × Leaves o (renamedStation g reading (g .log) l)
+  unfolding if_then_else_
+  roams s = renames (g .log) (s ∙ ap (withRenaming g r) (sym (same (eqb (r .cause) 0))))
+    where
+      same : (b : Bool) → (if b then g .log else g .log) ≡ g .log
+      same true = refl
+      same false = refl
 
 module _ (i : List ℕ) (l : List Listed) where
   pub setup-bad-list : badList requesterCapacity l ≡ true → result nobody (refusedFor badRequesterList) [] ≡ setup standard i l

@@ -1,4 +1,4 @@
--- `firmware::exports::dultxibe_frame` meets its contract: it changes the station in place by `frame` (`InPlace.antt`).
+-- `firmware::exports::dultxibe_frame` meets its contract: it changes the station in place by `frame` (`InPlace.antt`), of which it stores the timer and the requesters alone.
 -- Assumes nothing.
 use mathlib.Core.List.{List, [], _∷_}
 use mir.Syntax.{w32}
@@ -6,7 +6,7 @@ use base.Logic.{id⊢}
 use denote.Builtin.{u8, Array}
 use Rattle.firmware.proofs.InPlace.{Param}
 use Rattle.firmware.proofs.Params.{number, shared, sharedSlice}
-use Rattle.firmware.proofs.Stationed.{in-place}
+use Rattle.firmware.proofs.Stationed.{renewed, in-place}
 use Rattle.firmware.proofs.calls.frame as callee
 use Rattle.firmware.proofs.calls.frame.Symbol as callee-def
 use Rattle.firmware.proofs.calls.frame.Met as callee-thm
@@ -21,5 +21,5 @@ others = number w32 ∷ shared 0 tt (Array u8 tt 6) ∷ shared 1 tt (Array u8 tt
 pub dultxibe-frame-spec : {M : Type 1} → statement M
 unfolding code.routine
 dultxibe-frame-spec 𝓤 H 𝓜 𝓖 𝓡 =
-    in-place others 𝓤 H 𝓜 𝓖 𝓡 (f.clauses 𝓤 H (𝓖 .A) (𝓜 .mem) (𝓡 .run)) (callee.clauses 𝓤 H (𝓖 .A) (𝓜 .mem) (𝓡 .run)) (record { ghost = λ κs h a. tt; asks = λ κs h a. id⊢ 𝓤 _; says = λ κs x a y r ws. id⊢ 𝓤 _ })
+    in-place renewed others 𝓤 H 𝓜 𝓖 𝓡 (f.clauses 𝓤 H (𝓖 .A) (𝓜 .mem) (𝓡 .run)) (callee.clauses 𝓤 H (𝓖 .A) (𝓜 .mem) (𝓡 .run)) (record { ghost = λ κs h a. tt; asks = λ κs h a. id⊢ 𝓤 _; says = λ κs x a y r ws. id⊢ 𝓤 _ })
     code.env key.name callee-def.name callee-def.routine (code.unfolded 𝓤 H 𝓜 𝓡) code.calls-firmware·calls·frame (callee-thm.met 𝓤 H 𝓜 𝓖 𝓡)

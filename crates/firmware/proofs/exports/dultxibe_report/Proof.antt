@@ -16,22 +16,12 @@ use types.Run.{look, init, stop, hop, fld, from, load, addr, and-then, no-more, 
 use types.Part.{agg, whole, sub, look-in}
 use denote.Builtin.{u8, Array}
 use denote.Slice.{sliceTy, sliceVal, mut-slice-lawful}
-use denote.Laws.{Is}
 use denote.Memory.{pointee}
-use denote.Struct.Laws as LL
-use Rattle.station.specs.declared.Station.{Station}
-use Rattle.firmware.specs.Numbers.{withReported}
-use Rattle.firmware.specs.declared.Reported.{Reported}
 use Rattle.station.proofs.Station as T
-use Rattle.station.proofs.Station.Laws as T′
-use Rattle.firmware.proofs.Reply as Rep
-use Rattle.firmware.proofs.Reply.Laws as Rep′
-use Rattle.firmware.proofs.Reported as Changed
-use Rattle.firmware.proofs.Reported.Laws as Changed′
-use Rattle.firmware.proofs.InPlace.{Change, store-two, stores-two, Param, mirs, Between, Runs, exported}
+use Rattle.firmware.proofs.InPlace.{Param, mirs, Between, Runs, exported}
 use Rattle.firmware.proofs.Locals.{on-left, on-right}
 use Rattle.firmware.proofs.Params.{number, shared, lentSlice}
-use Rattle.firmware.proofs.Stationed.{at-lowered, stationed}
+use Rattle.firmware.proofs.Stationed.{renewed}
 use Rattle.firmware.proofs.calls.report as callee
 use Rattle.firmware.proofs.calls.report.Symbol as callee-def
 use Rattle.firmware.proofs.calls.report.Met as callee-thm
@@ -39,36 +29,6 @@ use Rattle.firmware.proofs.exports.dultxibe_report as f
 use Rattle.firmware.proofs.exports.dultxibe_report.Key as key
 use Rattle.firmware.proofs.exports.dultxibe_report.Statement.{statement}
 use Rattle.firmware.proofs.exports.dultxibe_report.Code as code
-
--- the station after it has the new timer and the new requesters, and of the old one the rest
-abbrev after : Station → Reported → Station
-after g r = withReported g r .station
-
-is-after : (g : Station) (r : Reported) (v : Val) → Is T.the-row g (T′.lowered g ∷ []) → Is Changed.the-row r (v ∷ []) → Is T.the-row (after g r) (T′.lowered (after g r) ∷ [])
-is-after g r v was is =
-    let old = LL.owed T.the-type T′.the-laws g (T′.lowered g ∷ []) was in
-    let new = LL.owed Changed.the-type Changed′.the-laws r (v ∷ []) is in
-    at-lowered T.the-type T′.the-laws T′.lowers (after g r) (LL.owes T.the-type T′.the-laws (after g r) (new .0, (old .1 .0, (old .1 .1 .0, (old .1 .1 .1 .0, (new .1 .0, old .1 .1 .1 .1 .1))))))
-
-abbrev reporting : Change
-reporting = record {
-  S = T.the-row;
-  R = Rep.the-row;
-  O = Changed.the-row;
-  low-S = T′.lowers;
-  low-R = Rep′.lowers;
-  low-O = Changed′.lowers;
-  left = after;
-  right = λ r. r .reply;
-  is-left = is-after;
-  is-right = λ r v is. at-lowered Rep.the-type Rep′.the-laws Rep′.lowers (r .reply) (LL.owed Changed.the-type Changed′.the-laws r (v ∷ []) is .1 .1 .0);
-  typed-S = stationed .typed-S;
-  typed-O = λ 𝓤 H A W r v is. LL.lawful Changed.the-type Changed′.the-laws 𝓤 H A W .typed r (v ∷ []) is .0;
-  makes-S = stationed .makes-S;
-  makes-R = stationed .makes-R;
-  code = store-two 0 4 (T′.lowers .mir);
-  stores = λ 𝓤 H A W g r. stores-two 𝓤 H A W 0 4 refl refl;
-}
 
 abbrev others : List (Param 2)
 others = number w32 ∷ shared 0 tt (Array u8 tt 6) ∷ number w8 ∷ lentSlice 1 tt u8 ∷ []
@@ -104,7 +64,7 @@ lends 𝓤 H A W C Λ reading b o kind b′ o′ l typed = record {
 pub dultxibe-report-spec : {M : Type 1} → statement M
 unfolding code.routine
 dultxibe-report-spec 𝓤 H 𝓜 𝓖 𝓡 =
-    exported reporting others 𝓤 H 𝓜 𝓖 𝓡 (f.clauses 𝓤 H (𝓖 .A) (𝓜 .mem) (𝓡 .run)) (callee.clauses 𝓤 H (𝓖 .A) (𝓜 .mem) (𝓡 .run)) (record { ghost = λ κs h a. tt; asks = λ κs h a. id⊢ 𝓤 _; says = λ κs x a y r ws. id⊢ 𝓤 _ })
+    exported renewed others 𝓤 H 𝓜 𝓖 𝓡 (f.clauses 𝓤 H (𝓖 .A) (𝓜 .mem) (𝓡 .run)) (callee.clauses 𝓤 H (𝓖 .A) (𝓜 .mem) (𝓡 .run)) (record { ghost = λ κs h a. tt; asks = λ κs h a. id⊢ 𝓤 _; says = λ κs x a y r ws. id⊢ 𝓤 _ })
     code.env lending
     (λ κs a are. lends 𝓤 H (𝓖 .A) (givenOf 𝓤 H 𝓜 𝓖) _ _ (a .0) (a .1 .0 .ptr .0) (a .1 .0 .ptr .1) (a .1 .1 .0) (a .1 .1 .1 .0 .ptr .0) (a .1 .1 .1 .0 .ptr .1) _ (mut-slice-lawful 𝓤 H (𝓖 .A) (givenOf 𝓤 H 𝓜 𝓖) erased (κs .1 .1 .0) u8 .typed (a .1 .1 .1 .0) _ (are .1 .1 .1 .0) .0))
     (pointee (T.the-row .written)) key.name callee-def.name callee-def.routine (code.unfolded 𝓤 H 𝓜 𝓡) code.calls-firmware·calls·report (callee-thm.met 𝓤 H 𝓜 𝓖 𝓡)

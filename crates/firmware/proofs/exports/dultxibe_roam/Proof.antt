@@ -6,7 +6,7 @@ use base.Logic.{id⊢}
 use denote.Builtin.{u8, Array}
 use Rattle.firmware.proofs.InPlace.{Param}
 use Rattle.firmware.proofs.Params.{number, sharedSlice}
-use Rattle.firmware.proofs.Stationed.{in-place}
+use Rattle.firmware.proofs.Stationed.{stationed, in-place}
 use Rattle.firmware.proofs.calls.roam as callee
 use Rattle.firmware.proofs.calls.roam.Symbol as callee-def
 use Rattle.firmware.proofs.calls.roam.Met as callee-thm
@@ -21,5 +21,5 @@ others = number w32 ∷ sharedSlice 0 tt (Array u8 tt 7) ∷ []
 pub dultxibe-roam-spec : {M : Type 1} → statement M
 unfolding code.routine
 dultxibe-roam-spec 𝓤 H 𝓜 𝓖 𝓡 =
-    in-place others 𝓤 H 𝓜 𝓖 𝓡 (f.clauses 𝓤 H (𝓖 .A) (𝓜 .mem) (𝓡 .run)) (callee.clauses 𝓤 H (𝓖 .A) (𝓜 .mem) (𝓡 .run)) (record { ghost = λ κs h a. tt; asks = λ κs h a. id⊢ 𝓤 _; says = λ κs x a y r ws. id⊢ 𝓤 _ })
+    in-place stationed others 𝓤 H 𝓜 𝓖 𝓡 (f.clauses 𝓤 H (𝓖 .A) (𝓜 .mem) (𝓡 .run)) (callee.clauses 𝓤 H (𝓖 .A) (𝓜 .mem) (𝓡 .run)) (record { ghost = λ κs h a. tt; asks = λ κs h a. id⊢ 𝓤 _; says = λ κs x a y r ws. id⊢ 𝓤 _ })
     code.env key.name callee-def.name callee-def.routine (code.unfolded 𝓤 H 𝓜 𝓡) code.calls-firmware·calls·roam (callee-thm.met 𝓤 H 𝓜 𝓖 𝓡)
