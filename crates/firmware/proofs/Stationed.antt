@@ -31,7 +31,7 @@ use Rattle.firmware.proofs.Changed.Laws as Ch′
 use Rattle.firmware.proofs.InPlace.{Change, store-whole, stores-whole, store-two, stores-two, Param, mirs, all-suit, straight, straight-runs, function, changing, giving, Agrees, Callee, exported}
 
 -- what is at a struct's values is at its machine value as lowering has it
-at-lowered : (D : Declared) (L : LL.Laws D) (lw : LL.Lowered D) (d : D .D) → Is (row D) d (LL.vals D L d) → Is (row D) d (lw .lowered d ∷ [])
+pub at-lowered : (D : Declared) (L : LL.Laws D) (lw : LL.Lowered D) (d : D .D) → Is (row D) d (LL.vals D L d) → Is (row D) d (lw .lowered d ∷ [])
 at-lowered D L lw d at = subst (λ (vs : List Val). Is (row D) d vs) (lw .val-is d (LL.vals D L d) at) at
 
 abbrev pub stationed : Change
@@ -58,7 +58,7 @@ stationed = record {
 abbrev after : Station → Changed → Station
 after g r = withChanged g r .station
 
-is-after : (g : Station) (r : Changed) (v : Val) → Is T.the-row g (T′.lowered g ∷ []) → Is Ch.the-row r (v ∷ []) → Is T.the-row (after g r) (T′.lowered (after g r) ∷ [])
+pub is-after : (g : Station) (r : Changed) (v : Val) → Is T.the-row g (T′.lowered g ∷ []) → Is Ch.the-row r (v ∷ []) → Is T.the-row (after g r) (T′.lowered (after g r) ∷ [])
 is-after g r v was is =
     let old = LL.owed T.the-type T′.the-laws g (T′.lowered g ∷ []) was in
     let new = LL.owed Ch.the-type Ch′.the-laws r (v ∷ []) is in

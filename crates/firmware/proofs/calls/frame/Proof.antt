@@ -14,7 +14,7 @@ changed-of-requires : tie.Need-changed-of-requires
 changed-of-requires c κs = search needs
 
 returns : tie.Need-returns
-returns c = c .changed-of .ensures _ [] ∙ ap numbered (c .before .framed .ensures)
+returns c = c .changed-of .ensures (c .before .before .before .before .before .args .g) [] ∙ ap numbered (c .before .framed .ensures)
 
 pub frame-spec : {M : Type 1} → statement M
 frame-spec = tie.close (tie.spec framed-requires changed-of-requires returns)

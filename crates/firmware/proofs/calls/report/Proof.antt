@@ -25,9 +25,9 @@ same-length c = search needs
 
 returns : tie.Need-returns
 returns c =
-    let a = c ^8 .args in
-    c .changed-of .ensures _ _
-    ∙ ap numbered (c ^3 .reported .ensures ∙ ap (λ (k : Kind). step elapsedClock standard (view (a .g)) (report (a .reading) (a .requester .now) k (a .buf .now))) (c ^5 .kind-of .ensures))
+    let a = c .before .before .before .before .before .before .before .before .args in
+    c .changed-of .ensures (a .g) _
+    ∙ ap numbered (c .before .before .before .reported .ensures ∙ ap (λ (k : Kind). step elapsedClock standard (view (a .g)) (report (a .reading) (a .requester .now) k (a .buf .now))) (c .before .before .before .before .before .kind-of .ensures))
 
 pub report-spec : {M : Type 1} → statement M
 report-spec =
