@@ -6,7 +6,7 @@
 #include "dultxibe.h"
 
 /* Logs a transition that took so many milliseconds. */
-static struct dultxibe_station logged(struct dultxibe_station station, uint32_t arrival, uint32_t took) {
+static void log_transition(struct dultxibe_station *station, uint32_t arrival, uint32_t took) {
     struct dultxibe_transition t = {
         .times.time = {255, 255, 255, 255, 255, 255, 255, 255, 255},
         .source = {2, 1, 1, 1, 1, 1},
@@ -14,7 +14,7 @@ static struct dultxibe_station logged(struct dultxibe_station station, uint32_t 
         .reason = 6,
         .departure = arrival - took,
     };
-    return dultxibe_log_transition(station, arrival, t).station;
+    dultxibe_log_transition(station, arrival, t);
 }
 
 static void ask(struct dultxibe_station station, const uint8_t *element, size_t length, size_t count,
@@ -32,9 +32,10 @@ int main(void) {
     struct dultxibe_outcome o = dultxibe_setup(identity, sizeof identity, requesters, 1);
     if (o.reply.code != DULTXIBE_ACCEPTED)
         return 1;
-    struct dultxibe_station station = logged(o.station, 1000, 500);
-    station = logged(station, 2000, 10);
-    station = logged(station, 3000, 300);
+    struct dultxibe_station station = o.station;
+    log_transition(&station, 1000, 500);
+    log_transition(&station, 2000, 10);
+    log_transition(&station, 3000, 300);
     ask(station, element, sizeof element, 3, 0);
     ask(station, element, sizeof element, 3, 1);
     ask(station, element, sizeof element, 3, 2);

@@ -117,9 +117,9 @@ static void print_elements(struct dultxibe_requester to, const uint8_t *frame, s
     }
 }
 
-/* The station after a requester asked for one event of each type, and got its report. */
-static struct dultxibe_station serve(struct dultxibe_station station, uint32_t reading,
-                                     struct dultxibe_requester to, uint8_t dialog) {
+/* A requester asks for one event of each type, and gets its report. */
+static void serve(struct dultxibe_station *station, uint32_t reading, struct dultxibe_requester to,
+                  uint8_t dialog) {
     struct dultxibe_request asked = {.kind = DULTXIBE_EVENT, .dialog = dialog, .count = 3};
     for (uint8_t type = DULTXIBE_TRANSITION; type <= DULTXIBE_PEER_LINK; type++) {
         asked.elements[type].token = type + 1;
@@ -128,29 +128,25 @@ static struct dultxibe_station serve(struct dultxibe_station station, uint32_t r
     }
     uint8_t request[267], report[260] = {0};
     struct dultxibe_reply wrote = dultxibe_write_request(asked, request, sizeof request);
-    struct dultxibe_outcome o =
-        dultxibe_frame(station, reading, address, to.address, request, wrote.length);
-    print_reply("frame", o.reply);
-    o = dultxibe_report(o.station, reading, to.address, DULTXIBE_EVENT, report, sizeof report);
-    print_reply("report", o.reply);
-    print_octets(report, o.reply.length);
+    print_reply("frame", dultxibe_frame(station, reading, address, to.address, request, wrote.length));
+    struct dultxibe_reply reply =
+        dultxibe_report(station, reading, to.address, DULTXIBE_EVENT, report, sizeof report);
+    print_reply("report", reply);
+    print_octets(report, reply.length);
     for (uint8_t form = DULTXIBE_DRAFT; form <= 2; form++)
-        print_frame(form, to, report, o.reply.length);
-    print_elements(to, report, o.reply.length);
-    return o.station;
+        print_frame(form, to, report, reply.length);
+    print_elements(to, report, reply.length);
 }
 
 int main(void) {
     print_reply("setup with form 2", dultxibe_setup(identity, sizeof identity, formless, 1).reply);
     struct dultxibe_outcome o = dultxibe_setup(identity, sizeof identity, requesters, 2);
     print_reply("setup", o.reply);
-    o = dultxibe_log_transition(o.station, 10, transition);
-    print_reply("log a transition", o.reply);
-    o = dultxibe_log_rsna(o.station, 11, login, none, 0);
-    print_reply("log an RSNA event", o.reply);
-    o = dultxibe_log_peer_link(o.station, 12, direct_link);
-    print_reply("log a peer link", o.reply);
-    struct dultxibe_station station = serve(o.station, 13, requesters[0], 7);
-    serve(station, 14, requesters[1], 8);
+    struct dultxibe_station station = o.station;
+    print_reply("log a transition", dultxibe_log_transition(&station, 10, transition));
+    print_reply("log an RSNA event", dultxibe_log_rsna(&station, 11, login, none, 0));
+    print_reply("log a peer link", dultxibe_log_peer_link(&station, 12, direct_link));
+    serve(&station, 13, requesters[0], 7);
+    serve(&station, 14, requesters[1], 8);
     return 0;
 }

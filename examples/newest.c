@@ -21,34 +21,33 @@ static struct dultxibe_transition transition(uint8_t reason) {
     return t;
 }
 
-/* The station after a frame that asks for so many transitions. */
-static struct dultxibe_station ask(struct dultxibe_station station, uint8_t dialog, uint8_t limit) {
+/* A frame that asks for so many transitions. */
+static void ask(struct dultxibe_station *station, uint8_t dialog, uint8_t limit) {
     struct dultxibe_request asked = {.kind = DULTXIBE_EVENT, .dialog = dialog, .count = 1};
     asked.elements[0].token = 5;
     asked.elements[0].type = DULTXIBE_TRANSITION;
     asked.elements[0].limit = limit;
     uint8_t frame[267];
     struct dultxibe_reply wrote = dultxibe_write_request(asked, frame, sizeof frame);
-    struct dultxibe_outcome o =
+    struct dultxibe_reply reply =
         dultxibe_frame(station, 20, address, requesters[0].address, frame, wrote.length);
-    printf("asked for %u: %s\n", limit, o.reply.code == DULTXIBE_ACCEPTED ? "accepted" : "refused");
-    return o.station;
+    printf("asked for %u: %s\n", limit, reply.code == DULTXIBE_ACCEPTED ? "accepted" : "refused");
 }
 
-/* The station after a report, whose reasons are printed as they stand in it. */
-static struct dultxibe_station report(struct dultxibe_station station) {
+/* A report, whose reasons are printed as they stand in it. */
+static void report(struct dultxibe_station *station) {
     uint8_t frame[260] = {0};
-    struct dultxibe_outcome o =
+    struct dultxibe_reply reply =
         dultxibe_report(station, 30, requesters[0].address, DULTXIBE_EVENT, frame, sizeof frame);
-    if (o.reply.code != DULTXIBE_LENGTH) {
+    if (reply.code != DULTXIBE_LENGTH) {
         printf("no report\n");
-        return o.station;
+        return;
     }
-    printf("report of %zu octets, reasons", o.reply.length);
+    printf("report of %zu octets, reasons", reply.length);
     size_t position = DULTXIBE_FIRST_ELEMENT;
-    while (position < o.reply.length) {
+    while (position < reply.length) {
         struct dultxibe_step step =
-            dultxibe_next_element(DULTXIBE_DRAFT, DULTXIBE_EVENT, position, frame, o.reply.length);
+            dultxibe_next_element(DULTXIBE_DRAFT, DULTXIBE_EVENT, position, frame, reply.length);
         if (step.cause != 0) break;
         if (step.element.logged)
             printf(" %u", dultxibe_read_transition(DULTXIBE_DRAFT, frame + step.rest,
@@ -56,20 +55,19 @@ static struct dultxibe_station report(struct dultxibe_station station) {
         position = step.next;
     }
     printf("\n");
-    return o.station;
 }
 
 int main(void) {
     struct dultxibe_station station = dultxibe_setup(identity, sizeof identity, requesters, 1).station;
     for (uint8_t reason = 1; reason <= 10; reason++)
-        station = dultxibe_log_transition(station, 10, transition(reason)).station;
-    station = ask(station, 7, 3);
-    station = report(station);
-    station = report(station);
-    station = ask(station, 8, 255);
-    station = report(station);
-    station = dultxibe_log_transition(station, 30, transition(11)).station;
-    station = report(station);
-    report(station);
+        dultxibe_log_transition(&station, 10, transition(reason));
+    ask(&station, 7, 3);
+    report(&station);
+    report(&station);
+    ask(&station, 8, 255);
+    report(&station);
+    dultxibe_log_transition(&station, 30, transition(11));
+    report(&station);
+    report(&station);
     return 0;
 }

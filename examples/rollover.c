@@ -182,17 +182,15 @@ static struct dultxibe_request ask_for_diagnostics(void) {
 }
 
 /* The station's report to the first requester, and what that reads in it. */
-static struct dultxibe_outcome give_report(struct dultxibe_station station, uint32_t reading,
-                                           uint8_t kind) {
+static void give_report(struct dultxibe_station *station, uint32_t reading, uint8_t kind) {
     uint8_t report[260] = {0};
-    struct dultxibe_outcome o =
+    struct dultxibe_reply reply =
         dultxibe_report(station, reading, requesters[0].address, kind, report, sizeof report);
-    print_reply("report", o.reply);
-    if (o.reply.code == DULTXIBE_LENGTH) {
-        print_octets(report, o.reply.length);
-        print_report(report, o.reply.length);
+    print_reply("report", reply);
+    if (reply.code == DULTXIBE_LENGTH) {
+        print_octets(report, reply.length);
+        print_report(report, reply.length);
     }
-    return o;
 }
 
 int main(void) {
@@ -201,24 +199,18 @@ int main(void) {
 
     struct dultxibe_outcome o = dultxibe_setup(identity, sizeof identity, requesters, 2);
     print_reply("setup", o.reply);
-    o = dultxibe_log_transition(o.station, 10, transition);
-    print_reply("log a transition", o.reply);
-    o = dultxibe_log_rsna(o.station, 11, login, rsn, sizeof rsn - 1);
-    print_reply("log an RSNA event, cut", o.reply);
-    o = dultxibe_log_rsna(o.station, 12, login, rsn, sizeof rsn);
-    print_reply("log an RSNA event", o.reply);
-    o = dultxibe_log_peer_link(o.station, 13, direct_link);
-    print_reply("log a peer link", o.reply);
-    o = dultxibe_frame(o.station, 14, address, stranger, request, length);
-    print_reply("stranger's frame", o.reply);
-    o = dultxibe_frame(o.station, 15, address, requesters[0].address, request, length);
-    print_reply("frame", o.reply);
-    o = give_report(o.station, 16, DULTXIBE_EVENT);
-    o = give_report(o.station, 17, DULTXIBE_EVENT);
+    struct dultxibe_station *station = &o.station;
+    print_reply("log a transition", dultxibe_log_transition(station, 10, transition));
+    print_reply("log an RSNA event, cut", dultxibe_log_rsna(station, 11, login, rsn, sizeof rsn - 1));
+    print_reply("log an RSNA event", dultxibe_log_rsna(station, 12, login, rsn, sizeof rsn));
+    print_reply("log a peer link", dultxibe_log_peer_link(station, 13, direct_link));
+    print_reply("stranger's frame", dultxibe_frame(station, 14, address, stranger, request, length));
+    print_reply("frame", dultxibe_frame(station, 15, address, requesters[0].address, request, length));
+    give_report(station, 16, DULTXIBE_EVENT);
+    give_report(station, 17, DULTXIBE_EVENT);
 
     length = write_request(ask_for_diagnostics(), request, sizeof request);
-    o = dultxibe_frame(o.station, 18, address, requesters[0].address, request, length);
-    print_reply("frame", o.reply);
-    give_report(o.station, 19, DULTXIBE_DIAGNOSTIC);
+    print_reply("frame", dultxibe_frame(station, 18, address, requesters[0].address, request, length));
+    give_report(station, 19, DULTXIBE_DIAGNOSTIC);
     return 0;
 }

@@ -9,17 +9,17 @@
  * Words: a station is document 01's gate, a requester its console, refused its turned away; a place
  * is an octet of a frame.
  *
- * A station is a value. Every call takes it by value, with a reading of the millisecond counter, and
- * returns the next station with the answer; the one handed in is as it was:
+ * A station is the caller's: setup returns one, and every call is lent it with a reading of the
+ * millisecond counter, makes of it the next station where it stands, and returns the answer:
  *
  *     struct dultxibe_outcome o = dultxibe_setup(identity, length, requesters, count);
- *     o = dultxibe_tick(o.station, reading);
+ *     struct dultxibe_reply reply = dultxibe_tick(&o.station, reading);
  *
  * The functions keep nothing, call nothing but memcpy, memmove and memset, and need no memory but
- * the stack. A station that is handed in comes from a function of this file, whole. Every other
+ * the stack. A station that is lent comes from dultxibe_setup, whole, or is a copy of one. Every other
  * struct may hold any numbers, but has every field set. A flag is a uint8_t: any number but 0 is true,
- * and a function gives 0 or 1. A pointer is never null, also where its length is 0, and a buffer that
- * is written overlaps nothing else that is handed in. */
+ * and a function gives 0 or 1. A pointer is never null, also where its length is 0, and a station or a
+ * buffer that is written overlaps nothing else that is handed in. */
 #ifndef DULTXIBE_H
 #define DULTXIBE_H
 
@@ -151,7 +151,7 @@ struct dultxibe_peer_link {
     uint8_t status;
 };
 
-/* What a call gives. */
+/* What setup gives. */
 struct dultxibe_outcome {
     struct dultxibe_station station;
     struct dultxibe_reply reply;
@@ -166,45 +166,45 @@ struct dultxibe_outcome dultxibe_setup(const uint8_t *identity, size_t length,
  * modulo 2^32, then drops each unanswered diagnostic that is late, as every call below does first. The
  * first call after setup is at time zero. Calls lie less than 2^32 ms (49.7 days) apart, and readings
  * never go back. Accepted. */
-struct dultxibe_outcome dultxibe_tick(struct dultxibe_station station, uint32_t reading);
+struct dultxibe_reply dultxibe_tick(struct dultxibe_station *station, uint32_t reading);
 
 /* Logs a transition that ends at the reading. Accepted; or refused by BAD_TIME. */
-struct dultxibe_outcome dultxibe_log_transition(struct dultxibe_station station, uint32_t reading,
-                                                struct dultxibe_transition transition);
+struct dultxibe_reply dultxibe_log_transition(struct dultxibe_station *station, uint32_t reading,
+                                              struct dultxibe_transition transition);
 
 /* Logs an RSNA event with its RSN element of 22 octets, or without one (length 0). Accepted; or
  * refused by BAD_TIME, then BAD_REPORT_BODY (another length). */
-struct dultxibe_outcome dultxibe_log_rsna(struct dultxibe_station station, uint32_t reading,
-                                          struct dultxibe_rsna_event event, const uint8_t *rsn,
-                                          size_t length);
+struct dultxibe_reply dultxibe_log_rsna(struct dultxibe_station *station, uint32_t reading,
+                                        struct dultxibe_rsna_event event, const uint8_t *rsn,
+                                        size_t length);
 
 /* Logs a peer-to-peer link event. Accepted; or refused by BAD_TIME. */
-struct dultxibe_outcome dultxibe_log_peer_link(struct dultxibe_station station, uint32_t reading,
-                                               struct dultxibe_peer_link event);
+struct dultxibe_reply dultxibe_log_peer_link(struct dultxibe_station *station, uint32_t reading,
+                                             struct dultxibe_peer_link event);
 
 /* Takes a request frame. Accepted; or refused by GROUP_DESTINATION, UNKNOWN_REQUESTER (its source),
  * or one of 1 to 10 (the frame). */
-struct dultxibe_outcome dultxibe_frame(struct dultxibe_station station, uint32_t reading,
-                                       const uint8_t destination[6], const uint8_t source[6],
-                                       const uint8_t *frame, size_t length);
+struct dultxibe_reply dultxibe_frame(struct dultxibe_station *station, uint32_t reading,
+                                     const uint8_t destination[6], const uint8_t source[6],
+                                     const uint8_t *frame, size_t length);
 
 /* Writes the next report frame of a kind for a requester, in its form, at the front of the buffer. The
  * length of the frame, at most 2,304, octets past it as they were; or nothing; or refused by
  * UNKNOWN_REQUESTER or SHORT_BUFFER, the buffer as it was. Elements go in the request's order, the
  * events of each newest first; what does not fit is left for the next call. */
-struct dultxibe_outcome dultxibe_report(struct dultxibe_station station, uint32_t reading,
-                                        const uint8_t requester[6], uint8_t kind, uint8_t *buffer,
-                                        size_t length);
+struct dultxibe_reply dultxibe_report(struct dultxibe_station *station, uint32_t reading,
+                                      const uint8_t requester[6], uint8_t kind, uint8_t *buffer,
+                                      size_t length);
 
 /* A move inside the network: names the requesters anew, with their forms, drops every request, keeps
  * the log. Accepted; or refused by BAD_REQUESTER_LIST, or BAD_IDENTITY (the station has none). */
-struct dultxibe_outcome dultxibe_roam(struct dultxibe_station station, uint32_t reading,
-                                      const struct dultxibe_requester *requesters, size_t count);
+struct dultxibe_reply dultxibe_roam(struct dultxibe_station *station, uint32_t reading,
+                                    const struct dultxibe_requester *requesters, size_t count);
 
 /* A network change: the same, and empties the log. */
-struct dultxibe_outcome dultxibe_change_network(struct dultxibe_station station, uint32_t reading,
-                                                const struct dultxibe_requester *requesters,
-                                                size_t count);
+struct dultxibe_reply dultxibe_change_network(struct dultxibe_station *station, uint32_t reading,
+                                              const struct dultxibe_requester *requesters,
+                                              size_t count);
 
 /* Why an event of the log is absent from the reports of a request element: the first reason that
  * applies, in this order. */
@@ -231,7 +231,7 @@ struct dultxibe_explanation {
  * before the request was accepted (over the log's length: all). Conditions are tried in the order in
  * which they stand in the element. Refused by 4 to 8 (the element; also 4 where its ID is another or
  * octets stand behind it), then NO_LOGGED_EVENT; a place is one of the element. It is no call: it has no
- * reading, and no station comes back. */
+ * reading, takes the station by value, and leaves it as it is. */
 struct dultxibe_explanation dultxibe_explain(struct dultxibe_station station, const uint8_t *element,
                                              size_t length, size_t count, size_t position);
 

@@ -151,69 +151,46 @@ const _: () = assert!(offset_of!(Step, element) == 32 && size_of::<Element>() ==
 const _: () = assert!(size_of::<TransitionReport>() == 54 && size_of::<PeerLinkReport>() == 45);
 const _: () = assert!(size_of::<RsnaReport>() == 88 && offset_of!(RsnaReport, rsn_length) == 80);
 
-// C returns an outcome through a pointer that goes before the parameters and comes back (x86-64, System
-// V): named here, so that the outcome is written where the caller keeps it and no copy is added.
 extern "C" {
     pub fn dultxibe_setup(
-        outcome: *mut Outcome,
         identity: *const u8,
         length: usize,
         requesters: *const Requester,
         count: usize,
-    ) -> *mut Outcome;
-    pub fn dultxibe_tick(outcome: *mut Outcome, station: Station, reading: u32) -> *mut Outcome;
-    pub fn dultxibe_log_transition(
-        outcome: *mut Outcome,
-        station: Station,
-        reading: u32,
-        transition: Transition,
-    ) -> *mut Outcome;
+    ) -> Outcome;
+    pub fn dultxibe_tick(station: *mut Station, reading: u32) -> Reply;
+    pub fn dultxibe_log_transition(station: *mut Station, reading: u32, transition: Transition) -> Reply;
     pub fn dultxibe_log_rsna(
-        outcome: *mut Outcome,
-        station: Station,
+        station: *mut Station,
         reading: u32,
         event: RsnaEvent,
         rsn: *const u8,
         length: usize,
-    ) -> *mut Outcome;
-    pub fn dultxibe_log_peer_link(
-        outcome: *mut Outcome,
-        station: Station,
-        reading: u32,
-        event: PeerLink,
-    ) -> *mut Outcome;
+    ) -> Reply;
+    pub fn dultxibe_log_peer_link(station: *mut Station, reading: u32, event: PeerLink) -> Reply;
     pub fn dultxibe_frame(
-        outcome: *mut Outcome,
-        station: Station,
+        station: *mut Station,
         reading: u32,
         destination: *const [u8; 6],
         source: *const [u8; 6],
         frame: *const u8,
         length: usize,
-    ) -> *mut Outcome;
+    ) -> Reply;
     pub fn dultxibe_report(
-        outcome: *mut Outcome,
-        station: Station,
+        station: *mut Station,
         reading: u32,
         requester: *const [u8; 6],
         kind: u8,
         buffer: *mut u8,
         length: usize,
-    ) -> *mut Outcome;
-    pub fn dultxibe_roam(
-        outcome: *mut Outcome,
-        station: Station,
-        reading: u32,
-        requesters: *const Requester,
-        count: usize,
-    ) -> *mut Outcome;
+    ) -> Reply;
+    pub fn dultxibe_roam(station: *mut Station, reading: u32, requesters: *const Requester, count: usize) -> Reply;
     pub fn dultxibe_change_network(
-        outcome: *mut Outcome,
-        station: Station,
+        station: *mut Station,
         reading: u32,
         requesters: *const Requester,
         count: usize,
-    ) -> *mut Outcome;
+    ) -> Reply;
     pub fn dultxibe_read_report(form: u8, destination: *const [u8; 6], frame: *const u8, length: usize) -> ReportFrame;
     pub fn dultxibe_next_element(form: u8, kind: u8, position: usize, frame: *const u8, length: usize) -> Step;
     pub fn dultxibe_read_transition(form: u8, octets: *const u8, length: usize) -> TransitionReport;

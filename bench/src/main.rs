@@ -10,7 +10,6 @@ mod firmware;
 mod twin;
 
 use std::hint::black_box;
-use std::mem::MaybeUninit;
 use std::time::Instant;
 
 const STATIONS: usize = 8;
@@ -50,8 +49,8 @@ trait Side: Copy {
     fn time_units(age: u32) -> u16;
 }
 
-/// The proved side: what the last call gave, with the station that the next call takes by value.
-impl Side for firmware::Outcome {
+/// The proved side.
+impl Side for firmware::Station {
     type Listed = firmware::Requester;
 
     fn listed(address: [u8; 6], form: u8) -> firmware::Requester {
@@ -59,18 +58,13 @@ impl Side for firmware::Outcome {
     }
 
     fn set_up(list: &[firmware::Requester]) -> Self {
-        let mut outcome = MaybeUninit::uninit();
         let (identity, length) = (IDENTITY.as_ptr(), IDENTITY.len());
-        unsafe {
-            firmware::dultxibe_setup(outcome.as_mut_ptr(), identity, length, list.as_ptr(), list.len());
-            outcome.assume_init()
-        }
+        unsafe { firmware::dultxibe_setup(identity, length, list.as_ptr(), list.len()).station }
     }
 
     #[inline(never)]
     fn tick(&mut self, reading: u32) -> Answer {
-        unsafe { firmware::dultxibe_tick(self, self.station, reading) };
-        self.reply
+        unsafe { firmware::dultxibe_tick(self, reading) }
     }
 
     #[inline(never)]
@@ -84,8 +78,7 @@ impl Side for firmware::Outcome {
             signals: t.signals,
             departure: t.departure,
         };
-        unsafe { firmware::dultxibe_log_transition(self, self.station, reading, t) };
-        self.reply
+        unsafe { firmware::dultxibe_log_transition(self, reading, t) }
     }
 
     #[inline(never)]
@@ -97,8 +90,7 @@ impl Side for firmware::Outcome {
             method: e.method.0,
             result: e.result,
         };
-        unsafe { firmware::dultxibe_log_rsna(self, self.station, reading, e, rsn.as_ptr(), rsn.len()) };
-        self.reply
+        unsafe { firmware::dultxibe_log_rsna(self, reading, e, rsn.as_ptr(), rsn.len()) }
     }
 
     #[inline(never)]
@@ -112,34 +104,29 @@ impl Side for firmware::Outcome {
             connection: e.connection,
             status: e.status,
         };
-        unsafe { firmware::dultxibe_log_peer_link(self, self.station, reading, e) };
-        self.reply
+        unsafe { firmware::dultxibe_log_peer_link(self, reading, e) }
     }
 
     #[inline(never)]
     fn frame(&mut self, reading: u32, octets: &[u8]) -> Answer {
         let (start, length) = (octets.as_ptr(), octets.len());
-        unsafe { firmware::dultxibe_frame(self, self.station, reading, &GATE, &CONSOLES[1], start, length) };
-        self.reply
+        unsafe { firmware::dultxibe_frame(self, reading, &GATE, &CONSOLES[1], start, length) }
     }
 
     #[inline(never)]
     fn report(&mut self, reading: u32, kind: u8, buffer: &mut [u8]) -> Answer {
         let (start, length) = (buffer.as_mut_ptr(), buffer.len());
-        unsafe { firmware::dultxibe_report(self, self.station, reading, &CONSOLES[1], kind, start, length) };
-        self.reply
+        unsafe { firmware::dultxibe_report(self, reading, &CONSOLES[1], kind, start, length) }
     }
 
     #[inline(never)]
     fn roam(&mut self, reading: u32, list: &[firmware::Requester]) -> Answer {
-        unsafe { firmware::dultxibe_roam(self, self.station, reading, list.as_ptr(), list.len()) };
-        self.reply
+        unsafe { firmware::dultxibe_roam(self, reading, list.as_ptr(), list.len()) }
     }
 
     #[inline(never)]
     fn change_network(&mut self, reading: u32, list: &[firmware::Requester]) -> Answer {
-        unsafe { firmware::dultxibe_change_network(self, self.station, reading, list.as_ptr(), list.len()) };
-        self.reply
+        unsafe { firmware::dultxibe_change_network(self, reading, list.as_ptr(), list.len()) }
     }
 
     fn read(form: u8, octets: &[u8]) -> (usize, u64) {
@@ -589,7 +576,7 @@ fn median(times: &mut [f64]) -> f64 {
 }
 
 fn measure(case: &Case) -> (f64, f64, f64) {
-    let mut proved = Runner::<firmware::Outcome>::new(case);
+    let mut proved = Runner::<firmware::Station>::new(case);
     let mut twin = Runner::<twin::Station>::new(case);
     let (mut ours, mut theirs, mut ratios) = (vec![], vec![], vec![]);
     for batch in 0..BATCHES {
@@ -641,8 +628,8 @@ fn main() {
             let case = cases.iter().find(|case| case.name == name).expect("no such case");
             let calls = calls.parse().expect("calls: a number");
             match side {
-                "proved" => count::<firmware::Outcome>(case, calls, true),
-                "proved-none" => count::<firmware::Outcome>(case, calls, false),
+                "proved" => count::<firmware::Station>(case, calls, true),
+                "proved-none" => count::<firmware::Station>(case, calls, false),
                 "twin" => count::<twin::Station>(case, calls, true),
                 "twin-none" => count::<twin::Station>(case, calls, false),
                 _ => panic!("no such side"),

@@ -10,6 +10,7 @@ use Rattle.octets.specs.declared.numbers.Kind.{Kind}
 use Rattle.octets.specs.declared.numbers.Kind.the-variants.{Event, Diagnostic}
 use Rattle.model.specs.Model.{Station, Answer, accepted, nothing, ofLength, turnedAway, Result}
 use Rattle.station.specs.Views.{view}
+use Rattle.station.specs.declared.Station.{Station as Library·Station}
 use Rattle.subelements.specs.declared.Condition.{Condition as Subelements·Condition}
 use Rattle.requests.specs.declared.Element.{Element as Requests·Element}
 use Rattle.request_writer.specs.declared.Written.{Written}
@@ -19,6 +20,7 @@ use Rattle.report_reader.specs.declared.Element.{Element as Reader·Element}
 use Rattle.report_reader.specs.declared.Step.{Step as Reader·Step}
 use Rattle.firmware.specs.declared.Reply.{Reply}
 use Rattle.firmware.specs.declared.Outcome.{Outcome}
+use Rattle.firmware.specs.declared.Changed.{Changed}
 use Rattle.firmware.specs.declared.Condition.{Condition}
 use Rattle.firmware.specs.declared.RequestElement.{RequestElement}
 use Rattle.firmware.specs.declared.Report.{Report}
@@ -61,8 +63,17 @@ pub record Numbered : Type 0 where
 abbrev pub numbered : Result → Numbered
 numbered r = record { station = r .station; reply = replyTo (r .answer); buffer = r .buffer }
 
+-- a station of the library, a reply and a buffer, as a call leaves them
+abbrev pub left : Library·Station → Reply → List ℕ → Numbered
+left station reply buffer = record { station = view station; reply = reply; buffer = buffer }
+
 abbrev pub viewed : Outcome → List ℕ → Numbered
-viewed o buffer = record { station = view (o .station); reply = o .reply; buffer = buffer }
+viewed o buffer = left (o .station) (o .reply) buffer
+
+-- a station with what a frame or a report call changes of it, and the reply
+abbrev pub withChanged : Library·Station → Changed → Outcome
+withChanged g c =
+    record { station = record { timer = c .timer; identity = g .identity; length = g .length; log = g .log; requesters = c .requesters; count = g .count }; reply = c .reply }
 
 -- ---- what the request writer takes: the library's elements
 

@@ -1,4 +1,5 @@
-// Setup, and the calls on a station.
+// Setup, and the calls on a station by value.
+use crate::Changed;
 use crate::Outcome;
 use crate::Reply;
 use events::PeerLink;
@@ -17,8 +18,9 @@ ghost use Rattle.model.specs.Clocks.{elapsedClock};
 ghost use Rattle.model.specs.Model.{standard, clock, logging, frame, report, roam, change};
 ghost use Rattle.model.specs.Stations.{setup, step};
 ghost use Rattle.octets.specs.Numbers.{kindOf};
-ghost use Rattle.station.specs.Views.{view, viewOutcome};
-ghost use Rattle.firmware.specs.Numbers.{numbered, replyTo, viewed};
+ghost use Rattle.station.specs.declared.Station.{Station as Library·Station};
+ghost use Rattle.station.specs.Views.{view, viewOutcome, changedOutcome};
+ghost use Rattle.firmware.specs.Numbers.{numbered, replyTo, viewed, withChanged};
 
 // The numbers of an answer.
 fn reply_to(answer: Answer) -> Reply
@@ -63,6 +65,19 @@ fn outcome_of(o: station::Outcome) -> Outcome
     }
 }
 
+fn changed_of(c: station::Changed) -> Changed
+    ensures { λ r. ⌜ ((g : Library·Station) (buffer : List ℕ) → viewed (withChanged g r) buffer ≡ numbered (viewOutcome (changedOutcome g c) buffer)) ⌝ }
+{
+    let timer = c.timer;
+    let requesters = c.requesters;
+    let answer = c.answer;
+    Changed {
+        timer,
+        requesters,
+        reply: reply_to(answer),
+    }
+}
+
 // Names the identity and the requesters.
 #[no_mangle]
 pub extern "C" fn dultxibe_setup(identity: &[u8], list: &[[u8; 7]]) -> Outcome
@@ -72,76 +87,68 @@ pub extern "C" fn dultxibe_setup(identity: &[u8], list: &[[u8; 7]]) -> Outcome
 }
 
 // A bare clock reading.
-#[no_mangle]
-pub extern "C" fn dultxibe_tick(g: Station, reading: u32) -> Outcome
+pub(crate) fn tick(g: Station, reading: u32) -> Outcome
     ensures { λ r. ⌜ viewed r [] ≡ numbered (step elapsedClock standard (view g) (clock reading)) ⌝ }
 {
     outcome_of(g.tick(Milliseconds(reading)))
 }
 
 // Logs a transition, which the reading ends.
-#[no_mangle]
-pub extern "C" fn dultxibe_log_transition(g: Station, reading: u32, t: Transition) -> Outcome
+pub(crate) fn log_transition(g: Station, reading: u32, t: Transition) -> Outcome
     ensures { λ r. ⌜ viewed r [] ≡ numbered (step elapsedClock standard (view g) (logging reading (transition t))) ⌝ }
 {
     outcome_of(g.log_transition(Milliseconds(reading), t))
 }
 
 // Logs an RSNA event, with its RSN element.
-#[no_mangle]
-pub extern "C" fn dultxibe_log_rsna(g: Station, reading: u32, e: RsnaEvent, rsn: &[u8]) -> Outcome
+pub(crate) fn log_rsna(g: Station, reading: u32, e: RsnaEvent, rsn: &[u8]) -> Outcome
     ensures { λ r. ⌜ viewed r [] ≡ numbered (step elapsedClock standard (view g) (logging reading (rsna e (now (rsn .entry))))) ⌝ }
 {
     outcome_of(g.log_rsna(Milliseconds(reading), e, rsn))
 }
 
 // Logs a peer-to-peer link event.
-#[no_mangle]
-pub extern "C" fn dultxibe_log_peer_link(g: Station, reading: u32, e: PeerLink) -> Outcome
+pub(crate) fn log_peer_link(g: Station, reading: u32, e: PeerLink) -> Outcome
     ensures { λ r. ⌜ viewed r [] ≡ numbered (step elapsedClock standard (view g) (logging reading (peerLink e))) ⌝ }
 {
     outcome_of(g.log_peer_link(Milliseconds(reading), e))
 }
 
-// A frame from a source to a destination.
-#[no_mangle]
-pub extern "C" fn dultxibe_frame(
+// What a frame from a source to a destination changes.
+pub(crate) fn frame(
     g: Station,
     reading: u32,
     destination: &[u8; 6],
     source: &[u8; 6],
     o: &[u8],
-) -> Outcome
-    ensures { λ r. ⌜ viewed r [] ≡ numbered (step elapsedClock standard (view g) (frame reading (now (destination .entry)) (now (source .entry)) (now (o .entry)))) ⌝ }
+) -> Changed
+    ensures { λ r. ⌜ viewed (withChanged g r) [] ≡ numbered (step elapsedClock standard (view g) (frame reading (now (destination .entry)) (now (source .entry)) (now (o .entry)))) ⌝ }
 {
-    outcome_of(g.take_frame(Milliseconds(reading), *destination, *source, o))
+    changed_of(g.framed(Milliseconds(reading), *destination, *source, o))
 }
 
-// A report of a kind for a requester, into a lent buffer.
-#[no_mangle]
-pub extern "C" fn dultxibe_report(
+// What a report of a kind for a requester, into a lent buffer, changes.
+pub(crate) fn report(
     g: Station,
     reading: u32,
     requester: &[u8; 6],
     kind: u8,
     buf: &mut [u8],
-) -> Outcome
-    ensures { λ r. ⌜ viewed r (now (buf .exit)) ≡ numbered (step elapsedClock standard (view g) (report reading (now (requester .entry)) (kindOf kind) (now (buf .entry)))) ⌝ }
+) -> Changed
+    ensures { λ r. ⌜ viewed (withChanged g r) (now (buf .exit)) ≡ numbered (step elapsedClock standard (view g) (report reading (now (requester .entry)) (kindOf kind) (now (buf .entry)))) ⌝ }
 {
-    outcome_of(g.report(Milliseconds(reading), *requester, kind_of(kind), buf))
+    changed_of(g.reported(Milliseconds(reading), *requester, kind_of(kind), buf))
 }
 
 // A move inside the network.
-#[no_mangle]
-pub extern "C" fn dultxibe_roam(g: Station, reading: u32, list: &[[u8; 7]]) -> Outcome
+pub(crate) fn roam(g: Station, reading: u32, list: &[[u8; 7]]) -> Outcome
     ensures { λ r. ⌜ viewed r [] ≡ numbered (step elapsedClock standard (view g) (roam reading (now (list .entry)))) ⌝ }
 {
     outcome_of(g.roam(Milliseconds(reading), list))
 }
 
 // A network change.
-#[no_mangle]
-pub extern "C" fn dultxibe_change_network(g: Station, reading: u32, list: &[[u8; 7]]) -> Outcome
+pub(crate) fn change_network(g: Station, reading: u32, list: &[[u8; 7]]) -> Outcome
     ensures { λ r. ⌜ viewed r [] ≡ numbered (step elapsedClock standard (view g) (change reading (now (list .entry)))) ⌝ }
 {
     outcome_of(g.change_network(Milliseconds(reading), list))

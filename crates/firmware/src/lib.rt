@@ -1,12 +1,16 @@
-// The C interface (include/dultxibe.h): setup, the calls on a station, the request writer and the
-// report reader, by value over structs of C's layout, with numbers for answers. No bool crosses but
-// those inside a station: a flag is a number, 0 or not.
+// The C interface (include/dultxibe.h): setup, the calls on a station, which they change in place, the
+// request writer and the report reader, over structs of C's layout, with numbers for answers. No bool
+// crosses but those inside a station: a flag is a number, 0 or not.
 mod calls;
 mod elements;
+mod exports;
 mod frames;
 
+use model::REQUESTER_CAPACITY;
+use requesters::Requester;
 use requests::ELEMENT_CAPACITY;
 use station::Station;
+use station::Timer;
 
 // An answer: code 0 accepted, 1 nothing, 2 a frame of a length, 3 refused by a cause at a place. What
 // an answer does not have is 0.
@@ -22,6 +26,13 @@ pub struct Reply {
 #[repr(C)]
 pub struct Outcome {
     pub station: Station,
+    pub reply: Reply,
+}
+
+// What a frame or a report call changes of a station, and the answer.
+pub struct Changed {
+    pub timer: Timer,
+    pub requesters: [Requester; REQUESTER_CAPACITY],
     pub reply: Reply,
 }
 

@@ -9,7 +9,8 @@ use mathlib.Core.Option.{Option, none, some}
 use native.Mathlib.Nat.{sub-zero}
 use native.Mathlib.Omega.{arith}
 use lib.Dec.{leb}
-use lib.ListN.{length, take, drop, length-append, take-append-drop}
+use lib.ListN.{length, take, drop, length-append, length-drop, take-append-drop}
+use lib.Seq.{take-at, drop-at, length-take-le}
 use borrow.Author.Tests.{le-leb, lt-leb, leb-true, leb-false}
 use borrow.Rule.Slice.PartMut.{putMid}
 use Rattle.laws.specs.Choice.{if_then_else_}
@@ -20,7 +21,7 @@ use Rattle.octets.specs.Numbers.{category}
 use Rattle.model.proofs.FillLaws.{fill-fits}
 use Rattle.model.specs.Fill.{Piece, nothingMore, before, fillWith, fill, nextFrame}
 use Rattle.model.specs.Stations.{room}
-use Rattle.report_calls.specs.Internal.{isNone, FilledAs, Headed, FramedAs}
+use Rattle.report_calls.specs.Internal.{isNone, FilledAs, FramedAs}
 
 module _ {R : Type 0} (next : R → Option (Piece R)) where
   pub record Filling (q : R) (s buf : List ℕ) (at : ℕ) (r : R) : Type 0 where
@@ -142,33 +143,46 @@ module _ {R : Type 0} {next : R → Option (Piece R)} {q : R} {s buf : List ℕ}
         turn zero g h = absurd (omega arith)
         turn (suc fuel) g h = let j : suc fuel - 1 ≡ fuel = omega arith in rw (e, le-leb (length (p .octets)) (length s - at) h, j)
 
--- ---- a report frame: the part behind the header is lent on
+-- a part of s is lent, and h put before it afterwards
+lent-before : {A : Type 0} (h o s ys : List A) (a k : ℕ) → length h ≡ a → a + k ≤ length s → length o ≤ k → ys ≡ onto o (take k (drop a s)) → onto h (putMid a k s ys) ≡ onto (h ++ o) s
+lent-before {A} h o s ys a k at ends fits does =
+    let t : take a (onto h s) ≡ h = take-at h (drop (length h) s) a at in
+    let d : drop a (onto h s) ≡ drop a s = drop-at h (drop (length h) s) a at ∙ rw at in
+    let behind : drop (length h) (putMid a k s ys) ≡ ys ++ drop k (drop a s) = rw at (drop-at (take a s) (ys ++ drop k (drop a s)) a (length-take-le a s (omega arith))) in
+    let after : putMid a k (onto h s) ys ≡ h ++ (ys ++ drop k (drop a s)) = rw (t, d) in
+    ap (λ (x : List A). h ++ x) behind ∙ sym after ∙ lent h o s (onto h s) ys a k at refl ends fits (does ∙ ap (λ (x : List A). onto o (take k x)) (sym d))
 
-module _ {action dialog : ℕ} {s b : List ℕ} {end : ℕ} (h : Headed action dialog s b end) where
+-- ---- a report frame: the part behind the header is lent on, and the header put before it
+
+module _ (action dialog : ℕ) (s : List ℕ) (end : ℕ) (long : 260 ≤ length s) (ends : end ≡ room s) where
   abbrev header : List ℕ
   header = category ∷ action ∷ dialog ∷ []
 
-  pub header-within : end ≤ length b
-  header-within = omega (arith, h .ends, h .fits, ap length (h .octets) ∙ length-onto header s (omega (arith, h .ends, h .fits)))
+  room-some : 3 ≤ end
+  room-some = omega (arith, ends, long)
 
-  module _ {R : Type 0} {next : R → Option (Piece R)} {q rest : R} {y : List ℕ} {n : ℕ} {done : Bool} (f : FilledAs next q (take (end - 3) (drop 3 b)) y n done rest) where
-    frame-room : length (take (end - 3) (drop 3 b)) ≡ room s - 3
-    frame-room = lent-length header [] s b [] 3 (end - 3) refl (h .octets) (omega (arith, h .ends, h .fits)) ∙ ap (λ (k : ℕ). k - 3) (h .ends)
+  room-within : end ≤ length s
+  room-within = omega (arith, ends)
 
-    behind-header : fill next (length (take (end - 3) (drop 3 b))) (length (take (end - 3) (drop 3 b))) q ≡ fill next (room s - 3) (room s - 3) q
+  frame-room : length (take (end - 3) (drop 3 s)) ≡ room s - 3
+  frame-room = length-take-le (end - 3) (drop 3 s) (rw (length-drop 3 s) (omega (arith, room-within))) ∙ ap (λ (k : ℕ). k - 3) ends
+
+  module _ {R : Type 0} {next : R → Option (Piece R)} {q rest : R} {y : List ℕ} {n : ℕ} {done : Bool} (f : FilledAs next q (take (end - 3) (drop 3 s)) y n done rest) where
+    behind-header : fill next (length (take (end - 3) (drop 3 s))) (length (take (end - 3) (drop 3 s))) q ≡ fill next (room s - 3) (room s - 3) q
     behind-header = ap (λ (k : ℕ). fill next k k q) frame-room
 
-    pub framed : FramedAs next action dialog q s (putMid 3 (end - 3) b y) n done rest
+    pub framed : (s′ : List ℕ) → s′ ≡ onto header (putMid 3 (end - 3) s y) → FramedAs next action dialog q s s′ n done rest
     unfolding nextFrame
-    framed =
+    framed s′ e =
         let within = fill-fits next (room s - 3) (room s - 3) q in
         let w : n ≡ length (fill next (room s - 3) (room s - 3) q .octets) = f .wrote ∙ ap (λ (p : Piece R). length (p .octets)) behind-header in
         record {
-          short = omega (arith, within, w, h .ends, h .fits);
+          short = omega (arith, within, w, ends, room-some);
           wrote = ap (λ (k : ℕ). 3 + k) w ∙ omega arith;
           octets =
-              lent header (fill next (room s - 3) (room s - 3) q .octets) s b y 3 (end - 3) refl (h .octets) (omega (arith, h .ends, h .fits)) (omega (arith, within, h .ends))
-              (f .octets ∙ ap (λ (p : Piece R). onto (p .octets) (take (end - 3) (drop 3 b))) behind-header);
+              e
+              ∙ lent-before header (fill next (room s - 3) (room s - 3) q .octets) s y 3 (end - 3) refl (omega (arith, room-some, room-within)) (omega (arith, within, ends))
+              (f .octets ∙ ap (λ (p : Piece R). onto (p .octets) (take (end - 3) (drop 3 s))) behind-header);
           after = f .after ∙ ap (λ (p : Piece R). p .rest) behind-header;
           ended = f .ended;
         }

@@ -16,19 +16,20 @@ use requesters::EventRequest;
 use requesters::Requester;
 use requesters::Served;
 ghost use mathlib.Core.Path.{_≡_};
-ghost use mathlib.Core.List.{[]};
+ghost use mathlib.Core.List.{[], _∷_};
 ghost use mathlib.Core.Option.{none};
-ghost use Prim.Native.Nat.{_+_, _≤_};
+ghost use Prim.Native.Nat.{_+_, _≤_, min};
 ghost use lib.ListN.{length, take};
 ghost use Rattle.octets.specs.declared.numbers.Kind.the-variants.{Event, Diagnostic};
-ghost use Rattle.octets.specs.Numbers.{longestFrame, reportAction};
+ghost use Rattle.octets.specs.Numbers.{category, longestFrame, reportAction};
+ghost use Rattle.laws.specs.Buffers.{onto};
 ghost use Rattle.events.specs.Log.{logged};
 ghost use Rattle.units.specs.Time.{elapsedSince};
 ghost use Rattle.model.specs.Events.{nextEvent};
 ghost use Rattle.model.specs.Diagnostics.{nextDiagnostic};
 ghost use Rattle.model.specs.Stations.{giveKind, giveReport};
 ghost use Rattle.requesters.specs.Views.{left, eventsAt, progressOf, viewIdentity, viewRequester, viewServed};
-ghost use Rattle.report_calls.specs.Internal.{Headed, FramedAs, filledEvents, answeredDiagnostics, gaveEvents, gaveDiagnostics};
+ghost use Rattle.report_calls.specs.Internal.{FramedAs, filledEvents, answeredDiagnostics, gaveEvents, gaveDiagnostics};
 
 // An event request after a buffer was filled from it.
 fn after_events(r: EventRequest, f: Filled) -> EventRequest
@@ -63,23 +64,32 @@ fn after_diagnostics(r: DiagnosticRequest, f: Answered) -> DiagnosticRequest
     }
 }
 
-// The header at the front of a buffer; where the room for elements behind it ends.
-fn put_header(buf: &mut [u8], kind: Kind, dialog: u8) -> usize
+// Where a frame in a buffer of so many octets ends at most.
+fn frame_end(len: usize) -> usize
+    ensures { λ r. ⌜ r ≡ min len longestFrame ⌝ }
+{
+    least(len, numbers::LONGEST_FRAME)
+}
+
+// The header at the front of a buffer.
+fn put_header(buf: &mut [u8], kind: Kind, dialog: u8)
     requires { ⌜ 260 ≤ length (now buf) ⌝ }
-    ensures { λ r. ⌜ Headed (reportAction kind) dialog (now (buf .entry)) (now (buf .exit)) r ⌝ }
+    ensures { λ _. ⌜ now (buf .exit) ≡ onto (category ∷ reportAction kind ∷ dialog ∷ []) (now (buf .entry)) ⌝ }
 {
     let header = [numbers::CATEGORY, kind.report_action(), dialog];
     put(buf, 0, &header);
-    least(buf.len(), numbers::LONGEST_FRAME)
 }
 
-// An Event Report frame, in a form.
+// An Event Report frame, in a form. The header comes last: the compiler cannot tell a lent buffer from
+// a lent station, and what is written before the log is copied would cost a copy of the log.
 fn frame_events(form: u8, log: Log, r: EventRequest, buf: &mut [u8]) -> Filled
     requires { ⌜ 260 ≤ length (now buf) ⌝ }
     ensures { λ f. ⌜ FramedAs (nextEvent elapsedSince form (logged log)) (reportAction Event) (r .dialog) (eventsAt r (progressOf r)) (now (buf .entry)) (now (buf .exit)) (f .wrote) (f .done) (eventsAt r (f .after)) ⌝ }
 {
-    let end = put_header(buf, Kind::Event, r.dialog);
-    fill_events(form, log, r, &mut buf[3..end])
+    let end = frame_end(buf.len());
+    let f = fill_events(form, log, r, &mut buf[3..end]);
+    put_header(buf, Kind::Event, r.dialog);
+    f
 }
 
 // A Diagnostic Report frame.
@@ -92,8 +102,10 @@ fn frame_diagnostics(
     requires { ⌜ 260 ≤ length (now buf) ⌝ }
     ensures { λ f. ⌜ FramedAs (nextDiagnostic (take len (now (identity .entry)))) (reportAction Diagnostic) (r .dialog) (left (r .first) (r .count) (r .elements)) (now (buf .entry)) (now (buf .exit)) (f .wrote) (f .done) (left (f .first) (r .count) (r .elements)) ⌝ }
 {
-    let end = put_header(buf, Kind::Diagnostic, r.dialog);
-    fill_diagnostics(r, identity, len, &mut buf[3..end])
+    let end = frame_end(buf.len());
+    let f = fill_diagnostics(r, identity, len, &mut buf[3..end]);
+    put_header(buf, Kind::Diagnostic, r.dialog);
+    f
 }
 
 fn served(requester: Requester, answer: Answer) -> Served

@@ -11,13 +11,17 @@ use lib.ListN.{length, getD, take, drop, length-append, length-drop, drop-of-len
 use lib.Seq.{take-all, getD-drop}
 use borrow.Author.Tests.{leb-true, leb-false}
 use Rattle.laws.specs.Choice.{if_then_else_}
+use Rattle.laws.proofs.Choice.{either}
 use Rattle.laws.specs.Buffers.{WrittenBuffer, wrote, putAt}
 use Rattle.laws.proofs.Buffers.{put-at-fits}
 use Rattle.octets.specs.Fields.{octetsAt}
-use Rattle.octets.proofs.PlaceLaws.{octets-stand}
+use Rattle.octets.proofs.PlaceLaws.{octets-length, octets-stand}
+use Rattle.subelements.specs.Subelements.{lengthOf, bodyOctet, bodyAt}
 use Rattle.events.specs.declared.times.Times.{Times}
 use Rattle.events.specs.Transitions.{transitionLength, sourceOf, targetOf, tookOf, reasonOf, resultOf, signalsOf}
-use Rattle.report_reader.specs.Decoders.{timesIn, bodyIn, transitionIn}
+use Rattle.events.specs.RsnaEvents.{methodLength, rsnLength, rsnaTargetOf, authenticationOf, methodOf, rsnaResultOf, rsnElementOf}
+use Rattle.events.specs.PeerLinks.{peerLinkLength, peerOf, classOf, channelOf, powerOf, connectionOf, peerStatusOf}
+use Rattle.report_reader.specs.Decoders.{timesIn, bodyIn, transitionIn, rsnaIn, peerLinkIn}
 
 pub rest-behind : (o : List ℕ) (n from : ℕ) → from ≡ min n (length o) → take (length o - from) (drop from o) ≡ drop n o
 rest-behind o n from e = take-all (length o - from) (drop from o) (omega (arith, length-drop from o)) ∙ go (leb n (length o)) refl
@@ -79,12 +83,48 @@ first-octet o n k h = octet-of o n 0 k h ∙ ap (λ (i : ℕ). getD o i 0) (zero
 pub first-octets : (o : List ℕ) (n m k : ℕ) → k + m ≤ n → octetsAt (octetsAt o 0 n) k m ≡ octetsAt o k m
 first-octets o n = octets-same (octetsAt o 0 n) o n (first-octet o n)
 
--- a transition, by its time fields and the first octets of its body
-pub transition-read : (form : ℕ) (o : List ℕ) (times : Times) (body : List ℕ) → times ≡ timesIn form o → body ≡ octetsAt (bodyIn form o) 0 transitionLength
-    → record { times = times; source = sourceOf body; target = targetOf body; took = record { 0 = tookOf body }; reason = reasonOf body; result = resultOf body; signals = signalsOf body } ≡ transitionIn form o
-unfolding transitionIn
-transition-read form o times body t b =
-    let whole = bodyIn form o in
-    let f : (m k : ℕ) → k + m ≤ 21 → octetsAt (octetsAt whole 0 21) k m ≡ octetsAt whole k m = first-octets whole 21 in
-    let e : (k : ℕ) → k < 21 → getD (octetsAt whole 0 21) k 0 ≡ getD whole k 0 = first-octet whole 21 in
-    rw (t, b, f 6 0 (omega arith), f 6 6 (omega arith), f 4 17 (omega arith), e 12 (omega arith), e 13 (omega arith), e 14 (omega arith), e 15 (omega arith), e 16 (omega arith))
+-- and they are so many
+pub first-length : (o w : List ℕ) (m n : ℕ) → w ≡ octetsAt o 0 m → m ≡ n → n ≤ length w
+first-length o w m n e l = omega (arith, ap length e, octets-length o m 0, l)
+
+-- an EAP method, in the first 19 octets of a body
+method-most : (first : ℕ) → methodLength first ≤ 8
+unfolding lengthOf
+method-most first = either (λ (n : ℕ). n ≤ 8) (eqb first 254) 8 1 (λ _. omega arith) (λ _. omega arith)
+
+front-body : (o : List ℕ) (n : ℕ) → bodyAt (octetsAt o 0 19) 10 n ≡ bodyAt o 10 n
+unfolding bodyAt bodyOctet
+front-body o n =
+    let e : (k : ℕ) → k < 19 → getD (octetsAt o 0 19) k 0 ≡ getD o k 0 = first-octet o 19 in
+    rw (e 10 (omega arith), e 11 (omega arith), e 12 (omega arith), e 13 (omega arith), e 14 (omega arith), e 15 (omega arith), e 16 (omega arith), e 17 (omega arith))
+
+-- an event of each kind, by its time fields and the first octets of its body
+module _ (form : ℕ) (o : List ℕ) (times : Times) (body : List ℕ) (t : times ≡ timesIn form o) where
+  abbrev whole : List ℕ
+  whole = bodyIn form o
+
+  pub transition-read : body ≡ octetsAt whole 0 transitionLength
+      → record { times = times; source = sourceOf body; target = targetOf body; took = record { 0 = tookOf body }; reason = reasonOf body; result = resultOf body; signals = signalsOf body } ≡ transitionIn form o
+  unfolding transitionIn
+  transition-read b =
+      let f : (m k : ℕ) → k + m ≤ 21 → octetsAt (octetsAt whole 0 21) k m ≡ octetsAt whole k m = first-octets whole 21 in
+      let e : (k : ℕ) → k < 21 → getD (octetsAt whole 0 21) k 0 ≡ getD whole k 0 = first-octet whole 21 in
+      rw (t, b, f 6 0 (omega arith), f 6 6 (omega arith), f 4 17 (omega arith), e 12 (omega arith), e 13 (omega arith), e 14 (omega arith), e 15 (omega arith), e 16 (omega arith))
+
+  pub peer-link-read : body ≡ octetsAt whole 0 peerLinkLength
+      → record { times = times; peer = peerOf body; class = classOf body; channel = channelOf body; power = powerOf body; connection = connectionOf body; status = peerStatusOf body } ≡ peerLinkIn form o
+  unfolding peerLinkIn
+  peer-link-read b =
+      let f : (m k : ℕ) → k + m ≤ 13 → octetsAt (octetsAt whole 0 13) k m ≡ octetsAt whole k m = first-octets whole 13 in
+      let e : (k : ℕ) → k < 13 → getD (octetsAt whole 0 13) k 0 ≡ getD whole k 0 = first-octet whole 13 in
+      rw (t, b, f 6 0 (omega arith), f 3 9 (omega arith), e 6 (omega arith), e 7 (omega arith), e 8 (omega arith), e 12 (omega arith))
+
+  -- and its RSN element, by its octets
+  pub rsna-read : body ≡ octetsAt whole 0 19 → (element rsn : List ℕ) → element ≡ rsnElementOf whole → rsn ≡ octetsAt element 0 rsnLength
+      → record { times = times; target = rsnaTargetOf body; authentication = authenticationOf body; method = methodOf body; result = rsnaResultOf body; rsn = rsn; size = length element } ≡ rsnaIn form o
+  unfolding rsnaIn
+  rsna-read b element rsn p q =
+      let f : (m k : ℕ) → k + m ≤ 19 → octetsAt (octetsAt whole 0 19) k m ≡ octetsAt whole k m = first-octets whole 19 in
+      let e : (k : ℕ) → k < 19 → getD (octetsAt whole 0 19) k 0 ≡ getD whole k 0 = first-octet whole 19 in
+      let n = methodLength (getD whole 10 0) in
+      rw (t, q, p, b, f 6 0 (omega arith), f 4 6 (omega arith), e 10 (omega arith), front-body whole n, e (10 + n) (omega (arith, method-most (getD whole 10 0))))

@@ -1,4 +1,4 @@
--- Laws of the reader: a time is read of the part that it stands in; an event's body is not shorter than its fields; a step that is not refused moves on, and not past the end; its verdict says the rest of it; where an event stands, an element was found, and how many octets it takes; a turn of the validating loop.
+-- Laws of the reader: a time is read of the part that it stands in; an event's body is not shorter than its fields; a step that is not refused moves on, and not past the end; its verdict says the rest of it; its outline; where an event stands, an element was found, and how many octets it takes; a turn of the validating loop.
 -- Assumes nothing.
 use Prim.Native.Nat.{ℕ, _+_, _-_, _≤_, _<_}
 use mathlib.Core.Path.{_≡_, refl, sym, ap, _∙_}
@@ -11,10 +11,10 @@ use lib.Dec.{eqb, ltb}
 use borrow.Author.Tests.{eqb-true, eqb-false, ltb-false, not-true, not-false}
 use Rattle.laws.specs.Choice.{if_then_else_}
 use Rattle.laws.proofs.Walk.{Rest, start, last, again, done, go-on, stop-refused, stop-end}
-use Rattle.laws.proofs.Choice.{either, never}
+use Rattle.laws.proofs.Choice.{either, apply-if, never}
 use Rattle.octets.specs.declared.numbers.Kind.{Kind}
 use Rattle.octets.specs.declared.numbers.Kind.the-variants.{Event, Diagnostic}
-use Rattle.octets.specs.Refusals.{noRefusal, badRequesterList}
+use Rattle.octets.specs.Refusals.{noRefusal, badTime, badRequesterList}
 use Rattle.octets.specs.Elements.{pieceEnd}
 use Rattle.octets.specs.Times.{timeAt}
 use Rattle.octets.proofs.PlaceLaws.{octets-within}
@@ -29,8 +29,8 @@ use Rattle.events.proofs.RsnaLaws.{method-some}
 use Rattle.report_reader.specs.declared.Step.{Step}
 use Rattle.report_reader.specs.declared.Verdict.{Verdict}
 use Rattle.report_reader.specs.declared.Walk.{Walk}
-use Rattle.report_reader.specs.Reader.{refusedStep, skippedStep, plainStep, loggedStep, bareStep, reportLength, isRsnaLength, isEventLength, typedStep, eventStep, walkedStep, diagnosticStep, kindStep, ownReportStep, stepAt, cursorStep, elementReadAt, Reading, reading, gathered, unread, readStep, readElements}
-use Rattle.report_reader.specs.Internal.{verdictOf, walkOf, foundElement, Fits, stepOf}
+use Rattle.report_reader.specs.Reader.{refusedStep, skippedStep, plainStep, loggedStep, bareStep, reportLength, isRsnaLength, isEventLength, goodTimeAt, typedStep, eventStep, walkedStep, diagnosticStep, kindStep, ownReportStep, stepAt, cursorStep, elementReadAt, Reading, reading, gathered, unread, readStep, readElements}
+use Rattle.report_reader.specs.Internal.{verdictOf, walkOf, foundElement, Fits, stepOf, timed, held, Outline, EventOutline}
 
 -- ---- a time, read of the part that it stands in
 
@@ -181,6 +181,36 @@ module _ (s : List ℕ) (at number place : ℕ) where
   pub refused-fits : {v : Verdict} → v ≡ verdictOf (refusedStep number place) → v .found ≡ true → Fits s at v
   unfolding verdictOf
   refused-fits e f = never (ap (λ (v : Verdict). v .found) (sym e) ∙ f)
+
+-- ---- outlines: of a step that is refused, or passed over; with no event, or with one; and of a diagnostic
+
+module _ (form : ℕ) (s : List ℕ) (kind : Kind) (at : ℕ) {v : Verdict} where
+  pub refused-outline : (number place : ℕ) → v ≡ verdictOf (refusedStep number place) → Outline form s kind at v (refusedStep number place)
+  unfolding verdictOf held if_then_else_
+  refused-outline number place e = rw e (record { stands = record { fits = never; timely = never }; told = refl })
+
+  pub skipped-outline : (next : ℕ) → v ≡ verdictOf (skippedStep next) → Outline form s kind at v (skippedStep next)
+  unfolding verdictOf held if_then_else_
+  skipped-outline next e = rw e (record { stands = record { fits = never; timely = never }; told = refl })
+
+module _ (form : ℕ) (s : List ℕ) (at n : ℕ) {v : Verdict} (h : at + 2 + n ≤ length s) where
+  pub plain-outline : 3 ≤ n → v ≡ verdictOf (plainStep s at n 0) → EventOutline form s at v (plainStep s at n 0)
+  unfolding verdictOf plainStep held timed if_then_else_
+  plain-outline few e = rw e (record { stands = record { fits = λ _. record { head = omega arith; within = h }; timely = never }; told = refl })
+
+  pub logged-outline : 24 ≤ n → v ≡ verdictOf (loggedStep s at n)
+      → EventOutline form s at v (if not (goodTimeAt form s (at + 5)) then refusedStep badTime at else loggedStep s at n)
+  unfolding verdictOf loggedStep held timed if_then_else_
+  logged-outline few e = rw e (record {
+    stands = record { fits = λ _. record { head = omega arith; within = h }; timely = λ _. omega arith };
+    told = sym (apply-if verdictOf (not (goodTimeAt form s (at + 5))) (refusedStep badTime at) (loggedStep s at n));
+  })
+
+  pub diagnostic-outline : 3 ≤ n → v ≡ verdictOf (plainStep s at n 0) → Outline form s Diagnostic at v (diagnosticStep s at n)
+  unfolding verdictOf plainStep held if_then_else_
+  diagnostic-outline few e =
+      let k : at + 2 + n - (at + 2) ≡ n = omega arith in
+      rw e (record { stands = record { fits = λ _. record { head = omega arith; within = h }; timely = never }; told = ap (λ (m : ℕ). verdictOf (diagnosticStep s at m)) k })
 
 -- ---- an element that was found takes five octets at least, one with an event 26, and those behind its status stand in the frame
 

@@ -2,15 +2,19 @@
 -- What the validation of a frame sees of a step, and the step by that and the frame: proofs/Laws.antt has stepOf s at (verdictOf (stepAt form s kind at)) ≡ stepAt form s kind at.
 -- Assumes nothing.
 use Prim.Native.Nat.{ℕ, _+_, _-_, _≤_}
-use mathlib.Core.Bool.{false}
+use mathlib.Core.Path.{_≡_}
+use mathlib.Core.Bool.{true, false, not}
 use mathlib.Core.List.{List}
 use lib.ListN.{length, getD}
 use Rattle.laws.specs.Choice.{if_then_else_}
+use Rattle.octets.specs.declared.numbers.Kind.{Kind}
+use Rattle.octets.specs.declared.numbers.Kind.the-variants.{Event as EventKind, Diagnostic}
+use Rattle.octets.specs.Refusals.{badTime}
 use Rattle.report_reader.specs.declared.Element.{Element}
 use Rattle.report_reader.specs.declared.Step.{Step}
 use Rattle.report_reader.specs.declared.Verdict.{Verdict}
 use Rattle.report_reader.specs.declared.Walk.{Walk}
-use Rattle.report_reader.specs.Reader.{plainElement, foundStep, Reading}
+use Rattle.report_reader.specs.Reader.{refusedStep, plainElement, foundStep, goodTimeAt, diagnosticStep, Reading}
 
 -- all but the fields that are only handed out
 unfoldable pub verdictOf : Step → Verdict
@@ -42,3 +46,33 @@ unfoldable pub stepOf : List ℕ → ℕ → Verdict → Step
 stepOf s at v =
     if v .found then foundStep (foundElement s at v) (at + 5) (v .next)
     else record { refusal = v .refusal; found = false; element = plainElement 0 0 0 0 0; rest = 0; next = record { at = v .next } }
+
+-- ---- an element's verdict in two steps: its outline, with the length of its event, and then what it holds
+
+-- the time of an event
+unfoldable pub timed : ℕ → List ℕ → ℕ → Verdict → Verdict
+timed form s at v =
+    if not (v .logged) then v
+    else if not (goodTimeAt form s (at + 5)) then verdictOf (refusedStep badTime at)
+    else v
+
+-- or the subelements of a diagnostic
+abbrev pub heldBy : ℕ → List ℕ → Kind → ℕ → Verdict → Verdict
+heldBy form s EventKind at v = timed form s at v
+heldBy form s Diagnostic at v = verdictOf (diagnosticStep s at (v .next - (at + 2)))
+
+unfoldable pub held : ℕ → List ℕ → Kind → ℕ → Verdict → Verdict
+held form s kind at v = if not (v .found) then v else heldBy form s kind at v
+
+-- what it holds stands in the frame
+pub record Held (s : List ℕ) (at : ℕ) (v : Verdict) : Type 0 where
+  pub fits : v .found ≡ true → Fits s at v
+  pub timely : v .logged ≡ true → at + 14 ≤ length s
+
+-- the outline of a step: with what it holds, it is the step's verdict
+pub record Outline (form : ℕ) (s : List ℕ) (kind : Kind) (at : ℕ) (v : Verdict) (t : Step) : Type 0 where
+  pub stands : Held s at v
+  pub told : held form s kind at v ≡ verdictOf t
+
+abbrev pub EventOutline : ℕ → List ℕ → ℕ → Verdict → Step → Type 0
+EventOutline form s at v t = Outline form s EventKind at v t

@@ -5,6 +5,7 @@ use events::DRAFT_LENGTH;
 use events::PUBLISHED_LENGTH;
 use events::Times;
 use events::peer_links;
+use events::peer_links::PEER_LINK_LENGTH;
 use events::rsna_events;
 use events::rsna_events::METHOD_OFFSET;
 use events::rsna_events::RSN_LENGTH;
@@ -15,16 +16,15 @@ use events::transitions::TRANSITION_LENGTH;
 use octets::least;
 use octets::octet;
 use octets::put;
-use octets::read_at;
-use octets::time_at;
 use units::TimeUnits;
 ghost use mathlib.Core.Path.{_≡_};
 ghost use mathlib.Core.List.{[]};
-ghost use Prim.Native.Nat.{_<_};
+ghost use Prim.Native.Nat.{_+_, _≤_, _<_};
 ghost use lib.ListN.{length, drop};
 ghost use Rattle.octets.specs.Fields.{octetsAt};
 ghost use Rattle.octets.specs.Times.{timeAt};
-ghost use Rattle.events.specs.RsnaEvents.{rsnElementOf};
+ghost use Rattle.events.specs.Times.{draftLength, publishedLength};
+ghost use Rattle.events.specs.RsnaEvents.{rsnLength, rsnElementOf};
 ghost use Rattle.report_reader.specs.Decoders.{draftTimes, publishedTimes, bodyIn, timesIn, transitionIn, rsnaIn, peerLinkIn};
 
 // A reported transition; the signals are source RCPI, source RSNI, target RCPI and target RSNI. Of an
@@ -65,6 +65,9 @@ pub struct PeerLinkReport {
     pub status: u8,
 }
 
+// The most octets that an RSNA event has up to its RSN element.
+const RSNA_FRONT: usize = METHOD_OFFSET + 9;
+
 // What stands behind the first n octets.
 fn behind(o: &[u8], n: usize) -> &[u8]
     ensures { λ r. ⌜ now r ≡ drop n (now (o .entry)) ⌝ }
@@ -102,12 +105,23 @@ fn whole_of<'a>(o: &'a [u8], padded: &'a [u8]) -> &'a [u8]
     &o[..padded.len()]
 }
 
+// The octets at a position, which are all there.
+fn copy_at(o: &[u8], at: usize, out: &mut [u8])
+    requires { ⌜ at + length (now out) ≤ length (now o) ⌝ }
+    ensures { λ _. ⌜ now (out .exit) ≡ octetsAt (now (o .entry)) at (length (now (out .entry))) ⌝ }
+{
+    bytes::copy(&o[at..at + out.len()], out);
+}
+
 // The draft's time; no published field is carried.
 fn draft_times(o: &[u8]) -> Times
+    requires { ⌜ draftLength ≤ length (now o) ⌝ }
     ensures { λ r. ⌜ r ≡ draftTimes (timeAt (now (o .entry)) 0) ⌝ }
 {
+    let mut time = [0u8; DRAFT_LENGTH];
+    copy_at(o, 0, &mut time);
     Times {
-        time: time_at(o, 0),
+        time,
         tsf: [0; 8],
         offset: [0; 10],
         error: [0; 5],
@@ -116,14 +130,15 @@ fn draft_times(o: &[u8]) -> Times
 
 // The published fields; the draft's time is not carried.
 fn published_times(o: &[u8]) -> Times
+    requires { ⌜ publishedLength ≤ length (now o) ⌝ }
     ensures { λ r. ⌜ r ≡ publishedTimes (octetsAt (now (o .entry)) 0 8) (octetsAt (now (o .entry)) 8 10) (octetsAt (now (o .entry)) 18 5) ⌝ }
 {
     let mut tsf = [0u8; 8];
     let mut offset = [0u8; 10];
     let mut error = [0u8; 5];
-    read_at(o, 0, &mut tsf);
-    read_at(o, 8, &mut offset);
-    read_at(o, 18, &mut error);
+    copy_at(o, 0, &mut tsf);
+    copy_at(o, 8, &mut offset);
+    copy_at(o, 18, &mut error);
     Times {
         time: [0; DRAFT_LENGTH],
         tsf,
@@ -133,7 +148,7 @@ fn published_times(o: &[u8]) -> Times
 }
 
 // The time fields in a form. The end is tested before all of them: the length of what they are read of is
-// a constant, here and for the body of a transition.
+// a constant, here and for the body of each kind.
 fn times_in(form: u8, o: &[u8]) -> Times
     ensures { λ r. ⌜ r ≡ timesIn form (now (o .entry)) ⌝ }
 {
@@ -173,20 +188,32 @@ fn rsn_of(body: &[u8]) -> &[u8]
     behind(body, rsna_length(first))
 }
 
+// In its places, 0 past its end.
+fn rsn_places(element: &[u8]) -> [u8; RSN_LENGTH]
+    ensures { λ r. ⌜ r ≡ octetsAt (now (element .entry)) 0 rsnLength ⌝ }
+{
+    let mut padded = [0u8; RSN_LENGTH];
+    pad(element, &mut padded);
+    let mut rsn = [0u8; RSN_LENGTH];
+    copy_at(whole_of(element, &padded), 0, &mut rsn);
+    rsn
+}
+
 pub fn rsna_in(form: u8, o: &[u8]) -> RsnaReport
     ensures { λ r. ⌜ r ≡ rsnaIn form (now (o .entry)) ⌝ }
 {
     let body = body_in(form, o);
+    let mut front = [0u8; RSNA_FRONT];
+    pad(body, &mut front);
+    let fields = whole_of(body, &front);
     let element = rsn_of(body);
-    let mut rsn = [0u8; RSN_LENGTH];
-    read_at(element, 0, &mut rsn);
     RsnaReport {
         times: times_in(form, o),
-        target: rsna_events::target_of(body),
-        authentication: rsna_events::authentication_of(body),
-        method: rsna_events::method_of(body),
-        result: rsna_events::result_of(body),
-        rsn,
+        target: rsna_events::target_of(fields),
+        authentication: rsna_events::authentication_of(fields),
+        method: rsna_events::method_of(fields),
+        result: rsna_events::result_of(fields),
+        rsn: rsn_places(element),
         size: element.len(),
     }
 }
@@ -194,7 +221,10 @@ pub fn rsna_in(form: u8, o: &[u8]) -> RsnaReport
 pub fn peer_link_in(form: u8, o: &[u8]) -> PeerLinkReport
     ensures { λ r. ⌜ r ≡ peerLinkIn form (now (o .entry)) ⌝ }
 {
-    let body = body_in(form, o);
+    let rest = body_in(form, o);
+    let mut padded = [0u8; PEER_LINK_LENGTH];
+    pad(rest, &mut padded);
+    let body = whole_of(rest, &padded);
     PeerLinkReport {
         times: times_in(form, o),
         peer: peer_links::peer_of(body),

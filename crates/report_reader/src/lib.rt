@@ -39,7 +39,7 @@ ghost use Prim.Native.Nat.{ℕ, _+_, _^_, _≤_, _<_};
 ghost use lib.ListN.{length, getD};
 ghost use Rattle.report_reader.specs.declared.Step.{Step};
 ghost use Rattle.report_reader.specs.Reader.{refusedStep, skippedStep, plainStep, loggedStep, isRsnaLength, isEventLength, goodTimeAt, typedStep, eventStep, walkedStep, diagnosticStep, ownReportStep, stepAt, cursorStep, Reading, gathered, readElements, refusedReport, reportOf, readReport};
-ghost use Rattle.report_reader.specs.Internal.{verdictOf, walkOf, foundElement, Fits, stepOf};
+ghost use Rattle.report_reader.specs.Internal.{verdictOf, walkOf, foundElement, Fits, stepOf, timed, held, Held, Outline, EventOutline};
 
 // What a report body has in front of the time fields and the body of an event: token, type, status.
 const EVENT_HEAD: usize = 3;
@@ -96,7 +96,8 @@ pub struct Report {
     pub count: usize,
 }
 
-// ---- the verdict on one element
+// ---- the verdict on one element, in two steps: its outline, then what it holds (as one function it
+// would not be inlined into the loop over a frame and into the cursor's step)
 
 fn refused(number: u8, place: usize) -> Verdict
     ensures { λ r. ⌜ r ≡ verdictOf (refusedStep number place) ⌝ }
@@ -173,6 +174,68 @@ fn is_event_length(form: u8, s: &[u8], at: usize, n: usize, ty: u8) -> bool
     }
 }
 
+// A Successful report of an event type with a table, not of length 3.
+fn outline_typed(form: u8, s: &[u8], at: usize, n: usize, end: usize) -> Verdict
+    requires { ⌜ (n ≡ 3 → ⊥) × (3 ≤ n) × (end ≡ at + 2 + n) × (end ≤ length (now s)) ⌝ }
+    ensures { λ r. ⌜ EventOutline form (now (s .entry)) at r (typedStep form (now (s .entry)) at n) ⌝ }
+{
+    if !is_event_length(form, s, at, n, s[at + 3]) {
+        return refused(causes::BAD_REPORT_BODY, at);
+    }
+    logged(end)
+}
+
+// An event report; one of length 3 has nothing more, whatever its status and type.
+fn outline_event(form: u8, s: &[u8], at: usize, n: usize, end: usize) -> Verdict
+    requires { ⌜ (3 ≤ n) × (end ≡ at + 2 + n) × (end ≤ length (now s)) ⌝ }
+    ensures { λ r. ⌜ EventOutline form (now (s .entry)) at r (eventStep form (now (s .entry)) at n) ⌝ }
+{
+    if n == 3 {
+        return plain(end, 0);
+    }
+    if s[at + 4] != numbers::SUCCESSFUL {
+        return refused(causes::BAD_REPORT_BODY, at);
+    }
+    let ty = s[at + 3];
+    match ty {
+        0..=2 => outline_typed(form, s, at, n, end),
+        3..=255 => plain(end, 0),
+    }
+}
+
+// An element of the frame's own ID, with n octets of body up to its end.
+fn outline_own(form: u8, s: &[u8], kind: Kind, at: usize, n: usize, end: usize) -> Verdict
+    requires { ⌜ (end ≡ at + 2 + n) × (end ≤ length (now s)) ⌝ }
+    ensures { λ r. ⌜ Outline form (now (s .entry)) kind at r (ownReportStep form (now (s .entry)) kind at n) ⌝ }
+{
+    if n < 3 {
+        return refused(causes::SHORT_ELEMENT, at);
+    }
+    if numbers::CANCELLED < s[at + 4] {
+        return refused(causes::BAD_REPORT_BODY, at);
+    }
+    match kind {
+        Kind::Event => outline_event(form, s, at, n, end),
+        Kind::Diagnostic => plain(end, 0),
+    }
+}
+
+// What stands at a position; an event's time and a diagnostic's subelements are not looked at yet.
+fn outline_at(form: u8, s: &[u8], kind: Kind, at: usize) -> Verdict
+    ensures { λ r. ⌜ Outline form (now (s .entry)) kind at r (stepAt form (now (s .entry)) kind at) ⌝ }
+{
+    let end = piece_end(s, at, s.len());
+    if end == 0 {
+        return refused(causes::ELEMENT_PAST_END, at);
+    }
+    if octet(s, at) != kind.report_id() {
+        return skipped(end);
+    }
+    outline_own(form, s, kind, at, size(s, at + 1), end)
+}
+
+// ---- what the element holds
+
 // Is the draft's time good? It is read of a part of the frame, whose length is then a constant.
 fn good_time_at(form: u8, s: &[u8], at: usize) -> bool
     requires { ⌜ at + 9 ≤ length (now s) ⌝ }
@@ -184,36 +247,18 @@ fn good_time_at(form: u8, s: &[u8], at: usize) -> bool
     true
 }
 
-// A Successful report of an event type with a table, not of length 3.
-fn validate_typed(form: u8, s: &[u8], at: usize, n: usize, end: usize) -> Verdict
-    requires { ⌜ (n ≡ 3 → ⊥) × (3 ≤ n) × (end ≡ at + 2 + n) × (end ≤ length (now s)) ⌝ }
-    ensures { λ r. ⌜ r ≡ verdictOf (typedStep form (now (s .entry)) at n) ⌝ }
+// An event's time.
+fn validate_time(form: u8, s: &[u8], at: usize, v: Verdict) -> Verdict
+    requires { ⌜ (v .logged ≡ true → at + 14 ≤ length (now s)) ⌝ }
+    ensures { λ r. ⌜ r ≡ timed form (now (s .entry)) at v ⌝ }
 {
-    if !is_event_length(form, s, at, n, s[at + 3]) {
-        return refused(causes::BAD_REPORT_BODY, at);
+    if !v.logged {
+        return v;
     }
     if !good_time_at(form, s, at + 5) {
         return refused(causes::BAD_TIME, at);
     }
-    logged(end)
-}
-
-// An event report; one of length 3 has nothing more, whatever its status and type.
-fn validate_event(form: u8, s: &[u8], at: usize, n: usize, end: usize) -> Verdict
-    requires { ⌜ (3 ≤ n) × (end ≡ at + 2 + n) × (end ≤ length (now s)) ⌝ }
-    ensures { λ r. ⌜ r ≡ verdictOf (eventStep form (now (s .entry)) at n) ⌝ }
-{
-    if n == 3 {
-        return plain(end, 0);
-    }
-    if s[at + 4] != numbers::SUCCESSFUL {
-        return refused(causes::BAD_REPORT_BODY, at);
-    }
-    let ty = s[at + 3];
-    match ty {
-        0..=2 => validate_typed(form, s, at, n, end),
-        3..=255 => plain(end, 0),
-    }
+    v
 }
 
 fn validate_walked(end: usize, w: Subelements) -> Verdict
@@ -232,35 +277,18 @@ fn validate_diagnostic(s: &[u8], at: usize, end: usize) -> Verdict
     validate_walked(end, walk_edges(s, at + 5, end))
 }
 
-// An element of the frame's own ID, with n octets of body up to its end.
-fn validate_own(form: u8, s: &[u8], kind: Kind, at: usize, n: usize, end: usize) -> Verdict
-    requires { ⌜ (end ≡ at + 2 + n) × (end ≤ length (now s)) ⌝ }
-    ensures { λ r. ⌜ r ≡ verdictOf (ownReportStep form (now (s .entry)) kind at n) ⌝ }
+// The verdict, by the element's outline.
+fn validate_held(form: u8, s: &[u8], kind: Kind, at: usize, v: Verdict) -> Verdict
+    requires { ⌜ Held (now s) at v ⌝ }
+    ensures { λ r. ⌜ r ≡ held form (now (s .entry)) kind at v ⌝ }
 {
-    if n < 3 {
-        return refused(causes::SHORT_ELEMENT, at);
-    }
-    if numbers::CANCELLED < s[at + 4] {
-        return refused(causes::BAD_REPORT_BODY, at);
+    if !v.found {
+        return v;
     }
     match kind {
-        Kind::Event => validate_event(form, s, at, n, end),
-        Kind::Diagnostic => validate_diagnostic(s, at, end),
+        Kind::Event => validate_time(form, s, at, v),
+        Kind::Diagnostic => validate_diagnostic(s, at, v.next),
     }
-}
-
-// What stands at a position, validated.
-fn validate_at(form: u8, s: &[u8], kind: Kind, at: usize) -> Verdict
-    ensures { λ r. ⌜ r ≡ verdictOf (stepAt form (now (s .entry)) kind at) ⌝ }
-{
-    let end = piece_end(s, at, s.len());
-    if end == 0 {
-        return refused(causes::ELEMENT_PAST_END, at);
-    }
-    if octet(s, at) != kind.report_id() {
-        return skipped(end);
-    }
-    validate_own(form, s, kind, at, size(s, at + 1), end)
 }
 
 // ---- its step, by the verdict
@@ -327,7 +355,8 @@ impl Cursor {
     {
         let at = self.at;
         if is_form(form) {
-            return step_of(s, at, validate_at(form, s, kind, at));
+            let outline = outline_at(form, s, kind, at);
+            return step_of(s, at, validate_held(form, s, kind, at, outline));
         }
         step_of(s, at, refused(causes::BAD_REQUESTER_LIST, 0))
     }
@@ -372,7 +401,8 @@ fn validate(form: u8, s: &[u8], kind: Kind) -> Walk
         count: 0,
     };
     while w.at < s.len() {
-        w = advance(w, validate_at(form, s, kind, w.at));
+        let outline = outline_at(form, s, kind, w.at);
+        w = advance(w, validate_held(form, s, kind, w.at, outline));
         if w.refusal.number != 0 {
             return w;
         }
@@ -414,8 +444,7 @@ fn validated(form: u8, s: &[u8], kind: Kind) -> Report
     report_of(kind, octet(s, 2), validate(form, s, kind))
 }
 
-// Validates a whole frame, given its form and its destination. Each kind has a loop of its own, in which the kind is
-// a constant: `validate_at` is then inlined.
+// Validates a whole frame, given its form and its destination.
 pub fn read_report(form: u8, destination: [u8; 6], s: &[u8]) -> Report
     ensures { λ r. ⌜ r ≡ readReport form destination (now (s .entry)) ⌝ }
 {
@@ -430,8 +459,5 @@ pub fn read_report(form: u8, destination: [u8; 6], s: &[u8]) -> Report
     if cause != 0 {
         return refused_report(cause, 0);
     }
-    match kind {
-        Kind::Event => validated(form, s, Kind::Event),
-        Kind::Diagnostic => validated(form, s, Kind::Diagnostic),
-    }
+    validated(form, s, kind)
 }

@@ -13,6 +13,7 @@ use Rattle.requesters.specs.Views.{viewRequester, viewIdentity, viewAnswer}
 use Rattle.station.specs.declared.Timer.{Timer as Code·Timer}
 use Rattle.station.specs.declared.Station.{Station as Code·Station}
 use Rattle.station.specs.declared.Outcome.{Outcome}
+use Rattle.station.specs.declared.Changed.{Changed}
 
 -- the timer of the code: its reading is that of a call where one was made
 unfoldable pub viewTimer : Code·Timer → Timer
@@ -30,3 +31,8 @@ view g =
 -- what a call gives, with the lent buffer afterwards ([] where none was lent)
 unfoldable pub viewOutcome : Outcome → List ℕ → Result
 viewOutcome o buffer = record { station = view (o .station); answer = viewAnswer (o .answer); buffer = buffer }
+
+-- a station with what a frame or a report call changes of it, and the answer
+abbrev pub changedOutcome : Code·Station → Changed → Outcome
+changedOutcome g c =
+    record { station = record { timer = c .timer; identity = g .identity; length = g .length; log = g .log; requesters = c .requesters; count = g .count }; answer = c .answer }

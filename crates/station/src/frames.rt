@@ -1,7 +1,10 @@
 // Frame calls.
+use crate::Changed;
 use crate::Outcome;
 use crate::Station;
 use crate::clock::ticked;
+use crate::outcomes::answer_of;
+use crate::outcomes::changed;
 use crate::requester_lists::find;
 use events::LOG_CAPACITY;
 use events::Log;
@@ -11,7 +14,6 @@ use octets::Refusal;
 use octets::causes;
 use octets::is_group;
 use octets::least;
-use requesters::Answer;
 use requesters::new_diagnostics;
 use requesters::new_events;
 use requesters::renews_diagnostics;
@@ -26,9 +28,8 @@ ghost use Rattle.events.specs.Log.{logged as Log·logged};
 ghost use Rattle.model.specs.Clocks.{elapsedClock};
 ghost use Rattle.model.specs.Model.{standard, frame};
 ghost use Rattle.model.specs.Stations.{requestCall, step};
-ghost use Rattle.requesters.specs.Views.{viewAnswer};
-ghost use Rattle.station.specs.Internal.{frameRefusal, answerToFrame};
-ghost use Rattle.station.specs.Views.{view, viewOutcome};
+ghost use Rattle.station.specs.Internal.{frameRefusal};
+ghost use Rattle.station.specs.Views.{view, viewOutcome, changedOutcome};
 
 // How many entries are logged.
 fn logged_in(log: Log) -> u8
@@ -51,21 +52,12 @@ fn frame_refusal(destination: [u8; 6], found: bool, read: Refusal) -> Refusal
     read
 }
 
-fn answer_of(refusal: Refusal) -> Answer
-    ensures { λ r. ⌜ viewAnswer r ≡ answerToFrame refusal ⌝ }
-{
-    if refusal.number != 0 {
-        return Answer::Refused(refusal);
-    }
-    Answer::Accepted
-}
-
-// A request from a source to a destination, which its reader may have refused. A source that finds no
-// requester has the place behind the last. One way out for all answers; the requesters to search and
-// those to change are read apart, and only what changes is written: else the log and the requesters
-// would be copied once more.
-fn take_request(g: Station, destination: [u8; 6], source: [u8; 6], q: Request) -> Outcome
-    ensures { λ r. ⌜ viewOutcome r [] ≡ requestCall destination source q (view g) ⌝ }
+// What a request from a source to a destination changes, which its reader may have refused. A source that
+// finds no requester has the place behind the last. One way out for all answers; the requesters to search
+// and those to change are read apart, and only what changes is written: else the requesters would be
+// copied once more.
+fn take_request(g: Station, destination: [u8; 6], source: [u8; 6], q: Request) -> Changed
+    ensures { λ r. ⌜ viewOutcome (changedOutcome g r) [] ≡ requestCall destination source q (view g) ⌝ }
 {
     let timer = g.timer;
     let now = timer.now;
@@ -89,21 +81,28 @@ fn take_request(g: Station, destination: [u8; 6], source: [u8; 6], q: Request) -
         x.diagnostics = new_diagnostics(q, now);
         requesters[at] = x;
     }
-    let identity = g.identity;
-    Outcome {
-        station: Station {
-            timer,
-            identity,
-            length: g.length,
-            log,
-            requesters,
-            count: g.count,
-        },
+    Changed {
+        timer,
+        requesters,
         answer: answer_of(refusal),
     }
 }
 
 impl Station {
+    // What a frame from a source to a destination changes.
+    pub fn framed(
+        self,
+        reading: Milliseconds,
+        destination: [u8; 6],
+        source: [u8; 6],
+        o: &[u8],
+    ) -> Changed
+        ensures { λ r. ⌜ viewOutcome (changedOutcome self r) [] ≡ step elapsedClock standard (view self) (frame (reading .0) destination source (now (o .entry))) ⌝ }
+    {
+        let g = ticked(self, reading);
+        take_request(g, destination, source, read_request(o))
+    }
+
     // A frame from a source to a destination.
     pub fn take_frame(
         self,
@@ -114,7 +113,6 @@ impl Station {
     ) -> Outcome
         ensures { λ r. ⌜ viewOutcome r [] ≡ step elapsedClock standard (view self) (frame (reading .0) destination source (now (o .entry))) ⌝ }
     {
-        let g = ticked(self, reading);
-        take_request(g, destination, source, read_request(o))
+        changed(self, self.framed(reading, destination, source, o))
     }
 }

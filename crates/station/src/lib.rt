@@ -44,3 +44,11 @@ pub struct Outcome {
     pub station: Station,
     pub answer: Answer,
 }
+
+// What a frame or a report call changes of a station, and the answer: the identity, the log and the number
+// of requesters stay.
+pub struct Changed {
+    pub timer: Timer,
+    pub requesters: [Requester; REQUESTER_CAPACITY],
+    pub answer: Answer,
+}

@@ -1,7 +1,7 @@
 // What a call gives: a station and an answer.
+use crate::Changed;
 use crate::Outcome;
 use crate::Station;
-use model::REQUESTER_CAPACITY;
 use octets::Refusal;
 use requesters::Answer;
 use requesters::Requester;
@@ -12,8 +12,18 @@ ghost use Prim.Native.Nat.{ℕ};
 ghost use lib.ListN.{take};
 ghost use Rattle.requesters.specs.Views.{viewRequester, viewAnswer, viewServed};
 ghost use Rattle.model.specs.Stations.{result, refusedFor, served};
-ghost use Rattle.station.specs.Internal.{acceptedOutcome};
-ghost use Rattle.station.specs.Views.{view, viewOutcome};
+ghost use Rattle.station.specs.Internal.{answerTo, acceptedOutcome};
+ghost use Rattle.station.specs.Views.{view, viewOutcome, changedOutcome};
+
+// The answer to a call that is refused so, or by number 0: it is not.
+pub(crate) fn answer_of(refusal: Refusal) -> Answer
+    ensures { λ r. ⌜ viewAnswer r ≡ answerTo refusal ⌝ }
+{
+    if refusal.number != 0 {
+        return Answer::Refused(refusal);
+    }
+    Answer::Accepted
+}
 
 pub(crate) fn accepted_with(station: Station) -> Outcome
     ensures { λ r. ⌜ r ≡ acceptedOutcome station ⌝ }
@@ -35,15 +45,13 @@ pub(crate) fn refused_with(station: Station, cause: u8) -> Outcome
     }
 }
 
-// The station with other requesters, and an answer.
-pub(crate) fn outcome_with(
-    g: Station,
-    requesters: [Requester; REQUESTER_CAPACITY],
-    answer: Answer,
-) -> Outcome
-    ensures { λ r. ⌜ ((buffer : List ℕ) → viewOutcome r buffer ≡ result (record { timer = view g .timer; identity = view g .identity; log = view g .log; requesters = map viewRequester (take (g .count) requesters) }) (viewAnswer answer) buffer) ⌝ }
+// The station with what a call changes of it, and the answer.
+pub(crate) fn changed(g: Station, c: Changed) -> Outcome
+    ensures { λ r. ⌜ r ≡ changedOutcome g c ⌝ }
 {
-    let timer = g.timer;
+    let timer = c.timer;
+    let requesters = c.requesters;
+    let answer = c.answer;
     let identity = g.identity;
     let log = g.log;
     Outcome {

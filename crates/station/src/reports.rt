@@ -1,10 +1,12 @@
 // Report calls.
+use crate::Changed;
 use crate::Outcome;
 use crate::Station;
-use crate::clock::ticked;
+use crate::outcomes::changed;
 use crate::outcomes::left_alone;
-use crate::outcomes::outcome_with;
 use crate::requester_lists::find;
+use crate::requester_lists::tick_requesters;
+use crate::timers::advanced;
 use events::Log;
 use model::REQUESTER_CAPACITY;
 use model::REQUESTER_LAST;
@@ -23,7 +25,7 @@ ghost use Rattle.events.specs.Log.{logged};
 ghost use Rattle.model.specs.Stations.{giveReport, step};
 ghost use Rattle.requesters.specs.Views.{viewIdentity, viewRequester, viewServed};
 ghost use Rattle.station.specs.Internal.{serveIf};
-ghost use Rattle.station.specs.Views.{view, viewOutcome};
+ghost use Rattle.station.specs.Views.{view, viewOutcome, changedOutcome};
 
 // A report for a requester that was found, or was not.
 fn serve_report(
@@ -44,7 +46,41 @@ fn serve_report(
 }
 
 impl Station {
-    // A report for a requester, into a lent buffer. One way out, as for a frame.
+    // What a report for a requester, into a lent buffer, changes. The requester is found before the late
+    // drop, which changes no address: of requesters that are searched behind it the compiler makes one
+    // copy more.
+    pub fn reported(
+        self,
+        reading: Milliseconds,
+        source: [u8; 6],
+        kind: Kind,
+        buf: &mut [u8],
+    ) -> Changed
+        ensures { λ r. ⌜ viewOutcome (changedOutcome self r) (now (buf .exit)) ≡ step elapsedClock standard (view self) (Model·report (reading .0) source kind (now (buf .entry))) ⌝ }
+    {
+        let before = self.timer;
+        let timer = advanced(before, reading);
+        let now = timer.now;
+        let identity = self.identity;
+        let log = self.log;
+        let all = self.requesters;
+        let i = find(all, self.count, source);
+        let mut requesters = tick_requesters(all, self.count, now);
+        let found = i < least(self.count, REQUESTER_CAPACITY);
+        let at = least(i, REQUESTER_LAST);
+        let r = requesters[at];
+        let s = serve_report(r, found, &identity, self.length, log, kind, buf);
+        let requester = s.requester;
+        let answer = s.answer;
+        requesters[at] = requester;
+        Changed {
+            timer,
+            requesters,
+            answer,
+        }
+    }
+
+    // A report for a requester, into a lent buffer.
     pub fn report(
         self,
         reading: Milliseconds,
@@ -54,18 +90,6 @@ impl Station {
     ) -> Outcome
         ensures { λ r. ⌜ viewOutcome r (now (buf .exit)) ≡ step elapsedClock standard (view self) (Model·report (reading .0) source kind (now (buf .entry))) ⌝ }
     {
-        let g = ticked(self, reading);
-        let identity = g.identity;
-        let log = g.log;
-        let mut requesters = g.requesters;
-        let i = find(requesters, g.count, source);
-        let found = i < least(g.count, REQUESTER_CAPACITY);
-        let at = least(i, REQUESTER_LAST);
-        let r = requesters[at];
-        let s = serve_report(r, found, &identity, g.length, log, kind, buf);
-        let requester = s.requester;
-        let answer = s.answer;
-        requesters[at] = requester;
-        outcome_with(g, requesters, answer)
+        changed(self, self.reported(reading, source, kind, buf))
     }
 }

@@ -27,12 +27,21 @@ pub struct Import<'a> {
 }
 
 /// The imports of a text, `use Rattle.CRATE.specs.FILE.{name, name as other}` each; in code behind `ghost`. Those
-/// of other libraries are left out.
+/// of other libraries are left out, and so are whole modules of proofs under a name of their own.
 pub fn logic(text: &str) -> Result<Vec<(Origin<'_>, Vec<Import<'_>>)>, String> {
     let starts =
         |at: &usize| ["", "ghost ", "pub "].contains(&text[..*at].rsplit('\n').next().unwrap_or_default());
     let places = text.match_indices("use Rattle·").map(|(at, _)| at).filter(starts);
-    places.map(|at| statement(&text[at + "use ".len()..])).collect()
+    let statements = places.map(|at| &text[at + "use ".len()..]);
+    statements.filter(|text| !is_proof_module(text)).map(statement).collect()
+}
+
+/// `Rattle.CRATE.proofs.MODULE as NAME`, which brings no definition along: for instance what the prover knows of a
+/// struct.
+fn is_proof_module(text: &str) -> bool {
+    let line = text.lines().next().unwrap_or_default();
+    line.split_once(" as ")
+        .is_some_and(|(path, _)| !path.contains('{') && path.split('.').nth(1) == Some("proofs"))
 }
 
 fn statement(text: &str) -> Result<(Origin<'_>, Vec<Import<'_>>), String> {
@@ -110,6 +119,12 @@ ghost use Rattle.octets.specs.declared.numbers.Kind.the-variants.{Event};
     #[test]
     fn an_import_without_names() {
         assert!(logic("use Rattle.a.specs.A\nuse Rattle.a.specs.B.{b}\n").is_err());
+    }
+
+    #[test]
+    fn a_module_under_a_name() {
+        assert_eq!(logic("use Rattle.a.proofs.Thing as T\n").unwrap(), []);
+        assert!(logic("use Rattle.a.specs.A as T\n").is_err());
     }
 
     #[test]

@@ -50,29 +50,14 @@ returns-3 c =
     let kind = c .before .before .before .before .frame-kind .ensures ∙ ap (frameKind _) (c .before .before .before .before .before .report-action .ensures) in
     rw (← c .before .before .before .before .before .before .before .before .before .is-form .ensures, c .before .before .before .before .before .before .before .before .if1 .left, ← c .before .before .before .before .before .before .before .is-group .ensures, c .before .before .before .before .before .before .if2 .left, ← kind, ← c .before .before .before .report-action2 .ensures, ← c .before .before .frame-cause .ensures, ne-eqb _ _ (c .before .if3 .taken)) (c .refused-report3 .ensures)
 
-enum-told : tie.Need-enum-told
-enum-told c = search needs
-
 validated-requires : tie.Need-validated-requires
 validated-requires c κs = search needs
-
-enum-told-2 : tie.Need-enum-told-2
-enum-told-2 c = search needs
-
-validated-requires-2 : tie.Need-validated-requires-2
-validated-requires-2 c κs = search needs
 
 returns-4 : tie.Need-returns-4
 unfolding readReport if_then_else_
 returns-4 c =
-    let kind = c .before .before .before .before .before .before .frame-kind .ensures ∙ ap (frameKind _) (c .before .before .before .before .before .before .before .report-action .ensures) in
-    rw (← c .before .before .before .before .before .before .before .before .before .before .before .is-form .ensures, c .before .before .before .before .before .before .before .before .before .before .if1 .left, ← c .before .before .before .before .before .before .before .before .before .is-group .ensures, c .before .before .before .before .before .before .before .before .if2 .left, ← kind, ← c .before .before .before .before .before .report-action2 .ensures, ← c .before .before .before .before .frame-cause .ensures, eq-eqb _ _ (c .before .before .before .if3 .left), c .before .enum-told .given .1) (c .validated .ensures)
-
-returns-5 : tie.Need-returns-5
-unfolding readReport if_then_else_
-returns-5 c =
-    let kind = c .before .before .before .before .before .before .frame-kind .ensures ∙ ap (frameKind _) (c .before .before .before .before .before .before .before .report-action .ensures) in
-    rw (← c .before .before .before .before .before .before .before .before .before .before .before .is-form .ensures, c .before .before .before .before .before .before .before .before .before .before .if1 .left, ← c .before .before .before .before .before .before .before .before .before .is-group .ensures, c .before .before .before .before .before .before .before .before .if2 .left, ← kind, ← c .before .before .before .before .before .report-action2 .ensures, ← c .before .before .before .before .frame-cause .ensures, eq-eqb _ _ (c .before .before .before .if3 .left), c .before .enum-told2 .given .1) (c .validated2 .ensures)
+    let kind = c .before .before .before .before .frame-kind .ensures ∙ ap (frameKind _) (c .before .before .before .before .before .report-action .ensures) in
+    rw (← c .before .before .before .before .before .before .before .before .before .is-form .ensures, c .before .before .before .before .before .before .before .before .if1 .left, ← c .before .before .before .before .before .before .before .is-group .ensures, c .before .before .before .before .before .before .if2 .left, ← kind, ← c .before .before .before .report-action2 .ensures, ← c .before .before .frame-cause .ensures, eq-eqb _ _ (c .before .if3 .left)) (c .validated .ensures)
 
 pub read-report-spec : {M : Type 1} → statement M
 read-report-spec =
@@ -90,9 +75,5 @@ read-report-spec =
     frame-cause-requires
     refused-report-requires-3
     returns-3
-    enum-told
     validated-requires
-    enum-told-2
-    validated-requires-2
-    returns-4
-    returns-5)
+    returns-4)

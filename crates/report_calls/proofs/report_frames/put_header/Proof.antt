@@ -1,14 +1,11 @@
 -- `report_calls::report_frames::put_header` meets its contract.
 -- Assumes nothing.
-use Prim.Native.Nat.{ℕ, min}
-use mathlib.Core.Path.{_≡_, ap, _∙_}
+use mathlib.Core.Path.{ap, _∙_}
 use mathlib.Core.List.{[], _∷_}
 use native.Mathlib.Omega.{arith}
-use lib.ListN.{length}
 use Rattle.laws.specs.Buffers.{WrittenBuffer}
-use Rattle.laws.proofs.Buffers.{put-at-fits, length-onto}
-use Rattle.octets.specs.Numbers.{category, longestFrame, reportAction}
-use Rattle.model.specs.Stations.{room}
+use Rattle.laws.proofs.Buffers.{put-at-fits}
+use Rattle.octets.specs.Numbers.{category, reportAction}
 use borrow.Author.Needs.{needs}
 use Rattle.report_calls.proofs.report_frames.put_header.Statement.{statement}
 use Rattle.report_calls.proofs.report_frames.put_header.Tie as tie
@@ -22,28 +19,16 @@ slice-aggregate-put c = search needs
 put-requires : tie.Need-put-requires
 put-requires c κs = search needs
 
-least-requires : tie.Need-least-requires
-least-requires c κs = search needs
-
 same-length : tie.Need-same-length
 same-length c = search needs
 
 returns : tie.Need-returns
 returns c =
-    let start = c .before .before .before .before .before .before .before .before in
-    let s = start .args .buf .now in
+    let start = c .before .before .before .before .before .before .before in
     let header = category ∷ reportAction (start .args .kind) ∷ start .args .dialog ∷ [] in
-    let put = ap (λ (w : WrittenBuffer). w .octets) (rw (c .before .before .before .before .before .before .report-action .ensures) at (c .before .before .before .put .ensures) ∙ put-at-fits header 0 s (omega (arith, start .pre))) in
-    let ends : c .least .result ≡ room s = c .least .ensures ∙ ap (λ (k : ℕ). min k longestFrame) (ap length put ∙ length-onto header s (omega (arith, start .pre))) in
-    record { fits = omega (arith, ends, start .pre); ends = ends; octets = put }
+    ap (λ (w : WrittenBuffer). w .octets) (rw (c .before .before .before .before .before .report-action .ensures) at (c .before .before .put .ensures) ∙ put-at-fits header 0 (start .args .buf .now) (omega (arith, start .pre)))
 
 pub put-header-spec : {M : Type 1} → statement M
 put-header-spec =
     tie.close
-    (tie.spec
-    report-action-requires
-    slice-aggregate-put
-    put-requires
-    least-requires
-    same-length
-    returns)
+    (tie.spec report-action-requires slice-aggregate-put put-requires same-length returns)

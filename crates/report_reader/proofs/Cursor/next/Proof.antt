@@ -12,17 +12,23 @@ use Rattle.report_reader.proofs.Cursor.next.Tie as tie
 is-form-requires : tie.Need-is-form-requires
 is-form-requires c κs = search needs
 
-validate-at-requires : tie.Need-validate-at-requires
-validate-at-requires c κs = search needs
+outline-at-requires : tie.Need-outline-at-requires
+outline-at-requires c κs = search needs
+
+validate-held-requires : tie.Need-validate-held-requires
+validate-held-requires c κs = c .outline-at .ensures .stands
 
 step-of-requires : tie.Need-step-of-requires
-step-of-requires c κs = let a = c .before .before .before .before .args in step-fits (a .form) (a .s .now) (a .kind) (a .self .at) (c .validate-at .ensures)
+step-of-requires c κs =
+    let a = c .before .before .before .before .before .args in
+    step-fits (a .form) (a .s .now) (a .kind) (a .self .at) (c .validate-held .ensures ∙ c .before .outline-at .ensures .told)
 
 returns : tie.Need-returns
 unfolding cursorStep if_then_else_
 returns c =
-    let a = c .before .before .before .before .before .args in
-    rw (← c .before .before .before .is-form .ensures, c .before .before .if1 .taken) (c .step-of .ensures ∙ rw (c .before .validate-at .ensures) (step-told (a .form) (a .s .now) (a .kind) (a .self .at)))
+    let a = c .before .before .before .before .before .before .args in
+    let verdict = c .before .validate-held .ensures ∙ c .before .before .outline-at .ensures .told in
+    rw (← c .before .before .before .before .is-form .ensures, c .before .before .before .if1 .taken) (c .step-of .ensures ∙ rw verdict (step-told (a .form) (a .s .now) (a .kind) (a .self .at)))
 
 refused-requires : tie.Need-refused-requires
 refused-requires c κs = search needs
@@ -41,7 +47,8 @@ next-spec =
     tie.close
     (tie.spec
     is-form-requires
-    validate-at-requires
+    outline-at-requires
+    validate-held-requires
     step-of-requires
     returns
     refused-requires

@@ -9,7 +9,7 @@ use Rattle.laws.specs.Choice.{if_then_else_}
 use Rattle.octets.specs.Fields.{octetsAt}
 use Rattle.octets.specs.Times.{timeAt}
 use Rattle.report_reader.specs.Decoders.{draftTimes, publishedTimes, timesIn}
-use Rattle.report_reader.proofs.DecoderLaws.{first-octets}
+use Rattle.report_reader.proofs.DecoderLaws.{first-octets, first-length}
 use borrow.Author.Needs.{needs}
 use Rattle.report_reader.proofs.decoders.times_in.Statement.{statement}
 use Rattle.report_reader.proofs.decoders.times_in.Tie as tie
@@ -30,7 +30,9 @@ whole-of-requires c κs h =
     c .before .before .pad .ensures (omega (arith, h, l)) ∙ ap (octetsAt _ 0) (sym l)
 
 draft-times-requires : tie.Need-draft-times-requires
-draft-times-requires c κs = search needs
+draft-times-requires c κs =
+    let l : length (c .before .before .before .pad .last .1 .0) ≡ 9 = search needs in
+    first-length _ _ _ 9 (c .whole-of .ensures) l
 
 returns : tie.Need-returns
 unfolding timesIn if_then_else_
@@ -56,7 +58,9 @@ whole-of-requires-2 c κs h =
     c .before .before .pad2 .ensures (omega (arith, h, l)) ∙ ap (octetsAt _ 0) (sym l)
 
 published-times-requires : tie.Need-published-times-requires
-published-times-requires c κs = search needs
+published-times-requires c κs =
+    let l : length (c .before .before .before .pad2 .last .1 .0) ≡ 23 = search needs in
+    first-length _ _ _ 23 (c .whole-of2 .ensures) l
 
 returns-2 : tie.Need-returns-2
 unfolding timesIn if_then_else_

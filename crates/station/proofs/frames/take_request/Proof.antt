@@ -71,31 +71,31 @@ answer-of-requires c κs = search needs
 returns : tie.Need-returns
 unfolding view viewTimer viewOutcome if_then_else_
 returns c =
-    let a = c .before .before .before .before .before .before .before .before .before .before .before .before .before .before .before .before .before .before .before .before .args in
+    let a = c .before .before .before .before .before .before .before .before .before .before .before .before .before .before .before .before .before .before .before .args in
     let g = view (a .g) in
     let rs = a .g .requesters in
-    let at = c .before .before .before .before .before .before .before .before .before .before .before .before .before .least2 .result in
+    let at = c .before .before .before .before .before .before .before .before .before .before .before .before .least2 .result in
     let x = getD rs at pastRequesters in
-    let four : length rs ≡ requesterCapacity = search (needs, length-mapped, c .before .before .before .before .before .before .before .before .before .before .before .before .before .before .before .before .before .before .before .before .good .0) in
-    let i = c .before .before .before .before .before .before .before .before .before .before .before .before .before .before .before .find .result in
+    let four : length rs ≡ requesterCapacity = search (needs, length-mapped, c .before .before .before .before .before .before .before .before .before .before .before .before .before .before .before .before .before .before .before .good .0) in
+    let i = c .before .before .before .before .before .before .before .before .before .before .before .before .before .before .find .result in
     let answer = c .answer-of .result in
-    let ok = eqb (c .before .before .before .before .before .before .before .before .before .before .before .frame-refusal .result .number) 0 in
-    let diagnostics = c .before .before .before .renews-diagnostics .result in
-    let first = c .before .before .before .before .if1 in
-    let events = c .before .before .before .before .before .renews-events .result in
+    let ok = eqb (c .before .before .before .before .before .before .before .before .before .before .frame-refusal .result .number) 0 in
+    let diagnostics = c .before .before .renews-diagnostics .result in
+    let first = c .before .before .before .if1 in
+    let events = c .before .before .before .before .renews-events .result in
     let e : (first .requesters ≡ set rs at (first .x)) × (first .x .address ≡ x .address) × (first .x .form ≡ x .form) × (viewEvents (first .x .events) ≡ (if events then some (openEvents (length (g .log)) (a .q)) else viewEvents (x .events))) × (first .x .diagnostics ≡ x .diagnostics) =
     ⊎-elim
     (λ w. (w .3 ∙ ap (set rs at) (sym (w .4)), ap (λ (r : Requester). r .address) (w .4), ap (λ (r : Requester). r .form) (w .4), rw (w .4, w .0 .taken, w .2 .ensures, w .1 .ensures), ap (λ (r : Requester). r .diagnostics) (w .4)))
     (λ w. (w .1 ∙ sym (set-getD rs at pastRequesters) ∙ ap (set rs at) (sym (w .2)), ap (λ (r : Requester). r .address) (w .2), ap (λ (r : Requester). r .form) (w .2), rw (w .2, w .0 .left), ap (λ (r : Requester). r .diagnostics) (w .2)))
     (first .came) in
-    let done = frame-taken (a .destination) (a .source) (a .q) g (a .g .count) rs four refl i (c .before .before .before .before .before .before .before .before .before .before .before .before .before .before .before .find .ensures) _ (ap (ltb i) (c .before .before .before .before .before .before .before .before .before .before .before .before .before .before .least .ensures)) _ (c .before .before .before .before .before .before .before .before .before .before .before .frame-refusal .ensures) at (c .before .before .before .before .before .before .before .before .before .before .before .before .before .least2 .ensures) in
+    let done = frame-taken (a .destination) (a .source) (a .q) g (a .g .count) rs four refl i (c .before .before .before .before .before .before .before .before .before .before .before .before .before .before .find .ensures) _ (ap (ltb i) (c .before .before .before .before .before .before .before .before .before .before .before .before .before .least .ensures)) _ (c .before .before .before .before .before .before .before .before .before .before .frame-refusal .ensures) at (c .before .before .before .before .before .before .before .before .before .before .before .before .least2 .ensures) in
     ⊎-elim
     (λ w.
     let y : Requester = record { address = first .x .address; form = first .x .form; events = first .x .events; diagnostics = w .1 .result } in
-    done (record { requester = y; answer = answer }) (c .answer-of .ensures) (renews (g .timer .now) (g .log) (a .q) x ok events diagnostics y (c .before .before .before .before .before .renews-events .ensures) (c .before .before .before .renews-diagnostics .ensures) (e .1) (e .2) (e .3) (rw (w .0 .taken) (w .1 .ensures))) _ (w .2 ∙ ap (λ (l : List Requester). set l at y) (e .0) ∙ set-set rs at (first .x) y))
+    done (record { requester = y; answer = answer }) (c .answer-of .ensures) (renews (g .timer .now) (g .log) (a .q) x ok events diagnostics y (c .before .before .before .before .renews-events .ensures) (c .before .before .renews-diagnostics .ensures) (e .1) (e .2) (e .3) (rw (w .0 .taken) (w .1 .ensures))) _ (w .2 ∙ ap (λ (l : List Requester). set l at y) (e .0) ∙ set-set rs at (first .x) y))
     (λ w.
-    done (record { requester = first .x; answer = answer }) (c .answer-of .ensures) (renews (g .timer .now) (g .log) (a .q) x ok events diagnostics (first .x) (c .before .before .before .before .before .renews-events .ensures) (c .before .before .before .renews-diagnostics .ensures) (e .1) (e .2) (e .3) (rw (w .0 .left) (ap viewDiagnostics (e .4)))) _ (w .1 ∙ e .0))
-    (c .before .before .if2 .came)
+    done (record { requester = first .x; answer = answer }) (c .answer-of .ensures) (renews (g .timer .now) (g .log) (a .q) x ok events diagnostics (first .x) (c .before .before .before .before .renews-events .ensures) (c .before .before .renews-diagnostics .ensures) (e .1) (e .2) (e .3) (rw (w .0 .left) (ap viewDiagnostics (e .4)))) _ (w .1 ∙ e .0))
+    (c .before .if2 .came)
 
 pub take-request-spec : {M : Type 1} → statement M
 take-request-spec =
