@@ -64,11 +64,11 @@ abbrev pub numbered : Result → Numbered
 numbered r = record { station = r .station; reply = replyTo (r .answer); buffer = r .buffer }
 
 -- a station of the library, a reply and a buffer, as a call leaves them
-abbrev pub left : Library·Station → Reply → List ℕ → Numbered
-left station reply buffer = record { station = view station; reply = reply; buffer = buffer }
+abbrev pub leftWith : Library·Station → Reply → List ℕ → Numbered
+leftWith station reply buffer = record { station = view station; reply = reply; buffer = buffer }
 
 abbrev pub viewed : Outcome → List ℕ → Numbered
-viewed o buffer = left (o .station) (o .reply) buffer
+viewed o buffer = leftWith (o .station) (o .reply) buffer
 
 -- a station with what a frame or a report call changes of it, and the reply
 abbrev pub withChanged : Library·Station → Changed → Outcome

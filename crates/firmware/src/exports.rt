@@ -20,12 +20,12 @@ ghost use Rattle.model.specs.Model.{standard, clock, logging, frame, report, ro
 ghost use Rattle.model.specs.Stations.{step};
 ghost use Rattle.octets.specs.Numbers.{kindOf};
 ghost use Rattle.station.specs.Views.{view};
-ghost use Rattle.firmware.specs.Numbers.{numbered, left};
+ghost use Rattle.firmware.specs.Numbers.{numbered, leftWith};
 
 // A bare clock reading.
 #[no_mangle]
 pub extern "C" fn dultxibe_tick(g: &mut Station, reading: u32) -> Reply
-    ensures { λ r. ⌜ left (now (g .exit)) r [] ≡ numbered (step elapsedClock standard (view (now (g .entry))) (clock reading)) ⌝ }
+    ensures { λ r. ⌜ leftWith (now (g .exit)) r [] ≡ numbered (step elapsedClock standard (view (now (g .entry))) (clock reading)) ⌝ }
 {
     let after = tick(*g, reading);
     *g = after.station;
@@ -35,7 +35,7 @@ pub extern "C" fn dultxibe_tick(g: &mut Station, reading: u32) -> Reply
 // Logs a transition, which the reading ends.
 #[no_mangle]
 pub extern "C" fn dultxibe_log_transition(g: &mut Station, reading: u32, t: Transition) -> Reply
-    ensures { λ r. ⌜ left (now (g .exit)) r [] ≡ numbered (step elapsedClock standard (view (now (g .entry))) (logging reading (transition t))) ⌝ }
+    ensures { λ r. ⌜ leftWith (now (g .exit)) r [] ≡ numbered (step elapsedClock standard (view (now (g .entry))) (logging reading (transition t))) ⌝ }
 {
     let after = log_transition(*g, reading, t);
     *g = after.station;
@@ -50,7 +50,7 @@ pub extern "C" fn dultxibe_log_rsna(
     e: RsnaEvent,
     rsn: &[u8],
 ) -> Reply
-    ensures { λ r. ⌜ left (now (g .exit)) r [] ≡ numbered (step elapsedClock standard (view (now (g .entry))) (logging reading (rsna e (now (rsn .entry))))) ⌝ }
+    ensures { λ r. ⌜ leftWith (now (g .exit)) r [] ≡ numbered (step elapsedClock standard (view (now (g .entry))) (logging reading (rsna e (now (rsn .entry))))) ⌝ }
 {
     let after = log_rsna(*g, reading, e, rsn);
     *g = after.station;
@@ -60,7 +60,7 @@ pub extern "C" fn dultxibe_log_rsna(
 // Logs a peer-to-peer link event.
 #[no_mangle]
 pub extern "C" fn dultxibe_log_peer_link(g: &mut Station, reading: u32, e: PeerLink) -> Reply
-    ensures { λ r. ⌜ left (now (g .exit)) r [] ≡ numbered (step elapsedClock standard (view (now (g .entry))) (logging reading (peerLink e))) ⌝ }
+    ensures { λ r. ⌜ leftWith (now (g .exit)) r [] ≡ numbered (step elapsedClock standard (view (now (g .entry))) (logging reading (peerLink e))) ⌝ }
 {
     let after = log_peer_link(*g, reading, e);
     *g = after.station;
@@ -76,7 +76,7 @@ pub extern "C" fn dultxibe_frame(
     source: &[u8; 6],
     o: &[u8],
 ) -> Reply
-    ensures { λ r. ⌜ left (now (g .exit)) r [] ≡ numbered (step elapsedClock standard (view (now (g .entry))) (frame reading (now (destination .entry)) (now (source .entry)) (now (o .entry)))) ⌝ }
+    ensures { λ r. ⌜ leftWith (now (g .exit)) r [] ≡ numbered (step elapsedClock standard (view (now (g .entry))) (frame reading (now (destination .entry)) (now (source .entry)) (now (o .entry)))) ⌝ }
 {
     let after = frame(*g, reading, destination, source, o);
     g.timer = after.timer;
@@ -94,7 +94,7 @@ pub extern "C" fn dultxibe_report(
     kind: u8,
     buf: &mut [u8],
 ) -> Reply
-    ensures { λ r. ⌜ left (now (g .exit)) r (now (buf .exit)) ≡ numbered (step elapsedClock standard (view (now (g .entry))) (report reading (now (requester .entry)) (kindOf kind) (now (buf .entry)))) ⌝ }
+    ensures { λ r. ⌜ leftWith (now (g .exit)) r (now (buf .exit)) ≡ numbered (step elapsedClock standard (view (now (g .entry))) (report reading (now (requester .entry)) (kindOf kind) (now (buf .entry)))) ⌝ }
 {
     let after = report(*g, reading, requester, kind, buf);
     g.timer = after.timer;
@@ -105,7 +105,7 @@ pub extern "C" fn dultxibe_report(
 // A move inside the network.
 #[no_mangle]
 pub extern "C" fn dultxibe_roam(g: &mut Station, reading: u32, list: &[[u8; 7]]) -> Reply
-    ensures { λ r. ⌜ left (now (g .exit)) r [] ≡ numbered (step elapsedClock standard (view (now (g .entry))) (roam reading (now (list .entry)))) ⌝ }
+    ensures { λ r. ⌜ leftWith (now (g .exit)) r [] ≡ numbered (step elapsedClock standard (view (now (g .entry))) (roam reading (now (list .entry)))) ⌝ }
 {
     let after = roam(*g, reading, list);
     *g = after.station;
@@ -115,7 +115,7 @@ pub extern "C" fn dultxibe_roam(g: &mut Station, reading: u32, list: &[[u8; 7]])
 // A network change.
 #[no_mangle]
 pub extern "C" fn dultxibe_change_network(g: &mut Station, reading: u32, list: &[[u8; 7]]) -> Reply
-    ensures { λ r. ⌜ left (now (g .exit)) r [] ≡ numbered (step elapsedClock standard (view (now (g .entry))) (change reading (now (list .entry)))) ⌝ }
+    ensures { λ r. ⌜ leftWith (now (g .exit)) r [] ≡ numbered (step elapsedClock standard (view (now (g .entry))) (change reading (now (list .entry)))) ⌝ }
 {
     let after = change_network(*g, reading, list);
     *g = after.station;

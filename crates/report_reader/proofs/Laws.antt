@@ -30,7 +30,7 @@ use Rattle.report_reader.specs.declared.Step.{Step}
 use Rattle.report_reader.specs.declared.Verdict.{Verdict}
 use Rattle.report_reader.specs.declared.Walk.{Walk}
 use Rattle.report_reader.specs.Reader.{refusedStep, skippedStep, plainStep, loggedStep, bareStep, reportLength, isRsnaLength, isEventLength, goodTimeAt, typedStep, eventStep, walkedStep, diagnosticStep, kindStep, ownReportStep, stepAt, cursorStep, elementReadAt, Reading, reading, gathered, unread, readStep, readElements}
-use Rattle.report_reader.specs.Internal.{verdictOf, walkOf, foundElement, Fits, stepOf, timed, held, Outline, EventOutline}
+use Rattle.report_reader.specs.Internal.{verdictOf, walkOf, foundElement, Fits, stepOf, timedVerdict, held, Outline, EventOutline}
 
 -- ---- a time, read of the part that it stands in
 
@@ -195,12 +195,12 @@ module _ (form : ℕ) (s : List ℕ) (kind : Kind) (at : ℕ) {v : Verdict} wher
 
 module _ (form : ℕ) (s : List ℕ) (at n : ℕ) {v : Verdict} (h : at + 2 + n ≤ length s) where
   pub plain-outline : 3 ≤ n → v ≡ verdictOf (plainStep s at n 0) → EventOutline form s at v (plainStep s at n 0)
-  unfolding verdictOf plainStep held timed if_then_else_
+  unfolding verdictOf plainStep held timedVerdict if_then_else_
   plain-outline few e = rw e (record { stands = record { fits = λ _. record { head = omega arith; within = h }; timely = never }; told = refl })
 
   pub logged-outline : 24 ≤ n → v ≡ verdictOf (loggedStep s at n)
       → EventOutline form s at v (if not (goodTimeAt form s (at + 5)) then refusedStep badTime at else loggedStep s at n)
-  unfolding verdictOf loggedStep held timed if_then_else_
+  unfolding verdictOf loggedStep held timedVerdict if_then_else_
   logged-outline few e = rw e (record {
     stands = record { fits = λ _. record { head = omega arith; within = h }; timely = λ _. omega arith };
     told = sym (apply-if verdictOf (not (goodTimeAt form s (at + 5))) (refusedStep badTime at) (loggedStep s at n));

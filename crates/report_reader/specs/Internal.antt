@@ -50,15 +50,15 @@ stepOf s at v =
 -- ---- an element's verdict in two steps: its outline, with the length of its event, and then what it holds
 
 -- the time of an event
-unfoldable pub timed : ℕ → List ℕ → ℕ → Verdict → Verdict
-timed form s at v =
+unfoldable pub timedVerdict : ℕ → List ℕ → ℕ → Verdict → Verdict
+timedVerdict form s at v =
     if not (v .logged) then v
     else if not (goodTimeAt form s (at + 5)) then verdictOf (refusedStep badTime at)
     else v
 
 -- or the subelements of a diagnostic
 abbrev pub heldBy : ℕ → List ℕ → Kind → ℕ → Verdict → Verdict
-heldBy form s EventKind at v = timed form s at v
+heldBy form s EventKind at v = timedVerdict form s at v
 heldBy form s Diagnostic at v = verdictOf (diagnosticStep s at (v .next - (at + 2)))
 
 unfoldable pub held : ℕ → List ℕ → Kind → ℕ → Verdict → Verdict

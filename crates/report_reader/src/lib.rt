@@ -39,7 +39,7 @@ ghost use Prim.Native.Nat.{ℕ, _+_, _^_, _≤_, _<_};
 ghost use lib.ListN.{length, getD};
 ghost use Rattle.report_reader.specs.declared.Step.{Step};
 ghost use Rattle.report_reader.specs.Reader.{refusedStep, skippedStep, plainStep, loggedStep, isRsnaLength, isEventLength, goodTimeAt, typedStep, eventStep, walkedStep, diagnosticStep, ownReportStep, stepAt, cursorStep, Reading, gathered, readElements, refusedReport, reportOf, readReport};
-ghost use Rattle.report_reader.specs.Internal.{verdictOf, walkOf, foundElement, Fits, stepOf, timed, held, Held, Outline, EventOutline};
+ghost use Rattle.report_reader.specs.Internal.{verdictOf, walkOf, foundElement, Fits, stepOf, timedVerdict, held, Held, Outline, EventOutline};
 
 // What a report body has in front of the time fields and the body of an event: token, type, status.
 const EVENT_HEAD: usize = 3;
@@ -250,7 +250,7 @@ fn good_time_at(form: u8, s: &[u8], at: usize) -> bool
 // An event's time.
 fn validate_time(form: u8, s: &[u8], at: usize, v: Verdict) -> Verdict
     requires { ⌜ (v .logged ≡ true → at + 14 ≤ length (now s)) ⌝ }
-    ensures { λ r. ⌜ r ≡ timed form (now (s .entry)) at v ⌝ }
+    ensures { λ r. ⌜ r ≡ timedVerdict form (now (s .entry)) at v ⌝ }
 {
     if !v.logged {
         return v;

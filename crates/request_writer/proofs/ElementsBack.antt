@@ -31,7 +31,7 @@ use Rattle.requests.specs.Elements.{elementCapacity, ElementWalk, leastBody, li
 use Rattle.laws.specs.Members.{All, also, any}
 use Rattle.request_writer.specs.Frames.{filterOctets, elementBody, elementOctets}
 use Rattle.request_writer.specs.Writer.{tokenRefusal}
-use Rattle.request_writer.specs.ReadBack.{ElementLengths, writtenConditions, readFilter, readElement}
+use Rattle.request_writer.specs.ReadBack.{ElementLengths, writtenConditions, readFilter, elementBack}
 use Rattle.request_writer.proofs.ConditionsBack.{atSubelements, no-conditions, conditions-back}
 
 abbrev pub atElements : ℕ → ℕ → List Element → ElementWalk
@@ -61,13 +61,13 @@ module _ (s : List ℕ) (at : ℕ) (e : Element) (r : List ℕ) where
   type-at Event h = stands-at s at (elementOctets Event e) r h 3 0
   type-at Diagnostic h = stands-at s at (elementOctets Diagnostic e) r h 3 0
 
-  limit-back : (kind : Kind) → Stands kind → limitAt s kind at ≡ readElement kind e .limit
-  unfolding elementOctets elementBody readElement
+  limit-back : (kind : Kind) → Stands kind → limitAt s kind at ≡ elementBack kind e .limit
+  unfolding elementOctets elementBody elementBack
   limit-back Event h = stands-at s at (elementOctets Event e) r h 4 0
   limit-back Diagnostic h = refl
 
-  timeout-back : (kind : Kind) → Stands kind → timeoutAt s kind at ≡ readElement kind e .timeout
-  unfolding elementOctets elementBody readElement
+  timeout-back : (kind : Kind) → Stands kind → timeoutAt s kind at ≡ elementBack kind e .timeout
+  unfolding elementOctets elementBody elementBack
   timeout-back Event h = refl
   timeout-back Diagnostic h =
       let p : at + 4 + 1 ≡ at + 5 = omega arith in
@@ -75,8 +75,8 @@ module _ (s : List ℕ) (at : ℕ) (e : Element) (r : List ℕ) where
 
   -- its subelements
   subelements-back : (kind : Kind) (end : ℕ) → Stands kind → ElementLengths e → end ≡ at + length (elementOctets kind e)
-      → subelementsOf s kind at end ≡ atSubelements end (readElement kind e .subs) (readElement kind e .filter)
-  unfolding subelementsOf elementOctets elementBody readElement walk if_then_else_
+      → subelementsOf s kind at end ≡ atSubelements end (elementBack kind e .subs) (elementBack kind e .filter)
+  unfolding subelementsOf elementOctets elementBody elementBack walk if_then_else_
   subelements-back Event end h shaped ends = rw (type-at Event h) (go (ltb (e .ty) tables) refl)
     where
       body : List ℕ
@@ -108,18 +108,18 @@ module _ (s : List ℕ) (at : ℕ) (e : Element) (r : List ℕ) where
   fields-back : (kind : Kind) → record {
     token = e .token;
     ty = e .ty;
-    limit = readElement kind e .limit;
-    subs = readElement kind e .subs;
-    timeout = readElement kind e .timeout;
-    filter = readElement kind e .filter;
-  } ≡ readElement kind e
-  unfolding readElement
+    limit = elementBack kind e .limit;
+    subs = elementBack kind e .subs;
+    timeout = elementBack kind e .timeout;
+    filter = elementBack kind e .filter;
+  } ≡ elementBack kind e
+  unfolding elementBack
   fields-back Event = refl
   fields-back Diagnostic = refl
 
   -- one step over it
   step-back : (kind : Kind) (n : ℕ) (es : List Element) → Stands kind → ElementLengths e → n < elementCapacity → badToken kind (take n es) (e .token) ≡ false
-      → elementStep elementCapacity s kind (atElements at n es) ≡ atElements (at + length (elementOctets kind e)) (n + 1) (set es n (readElement kind e))
+      → elementStep elementCapacity s kind (atElements at n es) ≡ atElements (at + length (elementOctets kind e)) (n + 1) (set es n (elementBack kind e))
   unfolding elementStep ownRequestStep withElement elementOctets if_then_else_
   step-back kind n es h shaped few good =
       let b : List ℕ = elementBody kind e in
@@ -145,21 +145,21 @@ module _ (s : List ℕ) (at : ℕ) (e : Element) (r : List ℕ) where
 
 -- ---- tokens
 
-read-token : (kind : Kind) (e : Element) → readElement kind e .token ≡ e .token
-unfolding readElement
+read-token : (kind : Kind) (e : Element) → elementBack kind e .token ≡ e .token
+unfolding elementBack
 read-token Event e = refl
 read-token Diagnostic e = refl
 
-tokens-same : (kind : Kind) (es : List Element) (t : ℕ) → hasToken (map (readElement kind) es) t ≡ hasToken es t
+tokens-same : (kind : Kind) (es : List Element) (t : ℕ) → hasToken (map (elementBack kind) es) t ≡ hasToken es t
 unfolding any
 tokens-same kind [] t = refl
 tokens-same kind (e ∷ es) t = rw (read-token kind e, tokens-same kind es t)
 
 -- the elements read so far have the tokens of those handed in
 bad-same : (kind : Kind) (n t : ℕ) (front blank : List Element) → length front ≡ n
-    → badToken kind (take n (map (readElement kind) front ++ blank)) t ≡ badToken kind front t
+    → badToken kind (take n (map (elementBack kind) front ++ blank)) t ≡ badToken kind front t
 unfolding badToken
-bad-same kind n t front blank e = rw (take-at (map (readElement kind) front) blank n (length-map front (readElement kind) ∙ e), tokens-same kind front t)
+bad-same kind n t front blank e = rw (take-at (map (elementBack kind) front) blank n (length-map front (elementBack kind) ∙ e), tokens-same kind front t)
 
 -- an element that the writer accepts
 record Accepts (kind : Kind) (front : List Element) (e : Element) (es : List Element) : Type 0 where
@@ -178,7 +178,7 @@ module _ (kind : Kind) (s : List ℕ) (whole : ElementWalk) where
   octetsFrom n es = pieces (λ (i : ℕ) (e : Element). elementOctets kind e) n es
 
   abbrev Read : ℕ → List Element → List Element
-  Read n front = map (readElement kind) front ++ drop n blankElements
+  Read n front = map (elementBack kind) front ++ drop n blankElements
 
   pub elements-back : (es front : List Element) (at n : ℕ) → All ElementLengths es → length front ≡ n → n + length es ≤ elementCapacity → tokenRefusal kind front es .number ≡ 0
       → drop at s ≡ octetsFrom n es → at + length (octetsFrom n es) ≡ length s
@@ -195,10 +195,10 @@ module _ (kind : Kind) (s : List ℕ) (whole : ElementWalk) where
       let lx = head-length kind x in
       let a = accepts kind front x es ok in
       let front₁ : List Element = front ++ (x ∷ []) in
-      let filled = fill-next (map (readElement kind) front) blankElements pastElements n (length-map front (readElement kind) ∙ e) (omega arith) (readElement kind x) in
+      let filled = fill-next (map (elementBack kind) front) blankElements pastElements n (length-map front (elementBack kind) ∙ e) (omega arith) (elementBack kind x) in
       let stepped : elementStep elementCapacity s kind (atElements at n (Read n front)) ≡ atElements (at + length o) (suc n) (Read (suc n) front₁)
       = step-back s at x rest kind n (Read n front) h shape (omega arith) (bad-same kind n (x .token) front _ e ∙ a .good)
-      ∙ rw (add-one n, filled, map-append (readElement kind) front (x ∷ [])) in
+      ∙ rw (add-one n, filled, map-append (elementBack kind) front (x ∷ [])) in
       let m : suc n + length es ≡ n + suc (length es) = omega arith in
       elements-back es front₁ (at + length o) (suc n) shapes (length-append front (x ∷ []) ∙ omega arith) (omega arith) (a .left)
       (stands-behind s at o rest h (at + length o) refl) (omega arith)

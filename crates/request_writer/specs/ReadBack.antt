@@ -39,8 +39,8 @@ writtenConditions ty id [] = 0
 writtenConditions ty id (c ∷ cs) = (if eqb (conditionLength ty id c) 0 then 0 else 1) + writtenConditions ty (suc id) cs
 
 -- an event has a limit, and the conditions of its type; a diagnostic has a timeout
-unfoldable pub readElement : Kind → Element → Element
-readElement Event e = record {
+unfoldable pub elementBack : Kind → Element → Element
+elementBack Event e = record {
   token = e .token;
   ty = e .ty;
   limit = e .limit;
@@ -48,7 +48,7 @@ readElement Event e = record {
   timeout = 0;
   filter = readFilter (e .ty) 0 (e .filter);
 }
-readElement Diagnostic e = record { token = e .token; ty = e .ty; limit = 0; subs = 0; timeout = e .timeout; filter = noFilter }
+elementBack Diagnostic e = record { token = e .token; ty = e .ty; limit = 0; subs = 0; timeout = e .timeout; filter = noFilter }
 
 -- the request of the elements handed in; the places past them are blank
 unfoldable pub readBack : Kind → ℕ → List Element → ℕ → Request
@@ -57,7 +57,7 @@ readBack kind dialog es count = record {
   kind = kind;
   dialog = dialog;
   count = count;
-  elements = map (readElement kind) (take count es) ++ drop count blankElements;
+  elements = map (elementBack kind) (take count es) ++ drop count blankElements;
 }
 
 -- the lengths of the arrays inside an element, which code has by their types

@@ -3,13 +3,13 @@
 use native.Mathlib.Omega.{arith}
 use borrow.Author.Tests.{not-false}
 use Rattle.laws.specs.Choice.{if_then_else_}
-use Rattle.report_reader.specs.Internal.{timed}
+use Rattle.report_reader.specs.Internal.{timedVerdict}
 use borrow.Author.Needs.{needs}
 use Rattle.report_reader.proofs.validate_time.Statement.{statement}
 use Rattle.report_reader.proofs.validate_time.Tie as tie
 
 returns : tie.Need-returns
-unfolding timed if_then_else_
+unfolding timedVerdict if_then_else_
 returns c = rw (c .if1 .taken)
 
 add-good-time-at : tie.Need-add-good-time-at
@@ -22,11 +22,11 @@ refused-requires : tie.Need-refused-requires
 refused-requires c κs = search needs
 
 returns-2 : tie.Need-returns-2
-unfolding timed if_then_else_
+unfolding timedVerdict if_then_else_
 returns-2 c = rw (c .before .before .before .if1 .left, ← c .before .before .good-time-at .ensures, c .before .if2 .taken) (c .refused .ensures)
 
 returns-3 : tie.Need-returns-3
-unfolding timed if_then_else_
+unfolding timedVerdict if_then_else_
 returns-3 c = rw (c .before .before .if1 .left, ← c .before .good-time-at .ensures, c .if2 .left)
 
 pub validate-time-spec : {M : Type 1} → statement M
