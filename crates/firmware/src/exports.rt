@@ -1,4 +1,6 @@
-// The calls on a station, which they change in place: each is the call by value on what stands there.
+// The calls on a station, which they change in place: each is the call by value on what stands there. Of a
+// frame and a report what they change is stored alone: the compiler cannot tell that a lent buffer lies
+// outside the station, and would copy the log out and back.
 use crate::Reply;
 use crate::calls::change_network;
 use crate::calls::frame;
@@ -84,8 +86,7 @@ pub extern "C" fn dultxibe_frame(
     after.reply
 }
 
-// A report of a kind for a requester, into a lent buffer. What it changes is stored alone: the compiler
-// cannot tell that the buffer lies outside the station, and would copy the log out and back.
+// A report of a kind for a requester, into a lent buffer.
 #[no_mangle]
 pub extern "C" fn dultxibe_report(
     g: &mut Station,
