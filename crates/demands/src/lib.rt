@@ -1,6 +1,8 @@
 // The three demands, stated in specs/ and proved in proofs/: of the model, and of the code for every
 // chain of calls that the station's contracts allow. The functions here are the links of such a
 // chain: each makes one call, and its contract is the chain's.
+#![tactic(auto)]
+
 ghost use Rattle.std.specs.Prelude.{[]};
 ghost use Rattle.events.specs.Loggings.{transition, rsna, peer_link};
 ghost use Rattle.model.specs.Model.{clock, logging, frame, report as Model·report, roam as Model·roam, change};

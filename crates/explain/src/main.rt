@@ -1,6 +1,8 @@
 // Explains an absent event (document 02 (f)). Standard input is a record 12 of a trace without its
 // number, then a trace; the log is that of the station after the trace. What is printed is the text of
 // replays.
+#![tactic(auto)]
+
 ghost use Rattle.io.specs.Counts.{IsPrefixLen};
 
 use libc::{STDIN_FILENO, STDOUT_FILENO};

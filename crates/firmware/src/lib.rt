@@ -1,6 +1,8 @@
 // The C interface (include/dultxibe.h): setup, the calls on a station, which they change in place, the
 // request writer and the report reader, over structs of C's layout, with numbers for answers. No bool
 // crosses but those inside a station: a flag is a number, 0 or not.
+#![tactic(auto)]
+
 mod calls;
 mod elements;
 mod exports;
@@ -14,7 +16,7 @@ use station::{Station, Timer};
 // An answer: code 0 accepted, 1 nothing, 2 a frame of a length, 3 refused by a cause at a place. What
 // an answer does not have is 0.
 #[repr(C)]
-#[derive(Drop)]
+#[derive(Clone, Copy)]
 pub struct Reply {
     pub code: u8,
     pub cause: u8,
@@ -24,14 +26,14 @@ pub struct Reply {
 
 // What a call gives: the station after it, and the answer.
 #[repr(C)]
-#[derive(Drop)]
+#[derive(Clone, Copy)]
 pub struct Outcome {
     pub station: Station,
     pub reply: Reply,
 }
 
 // What a frame or a report call changes of a station, and the answer.
-#[derive(Drop)]
+#[derive(Clone, Copy)]
 pub struct Changed {
     pub timer: Timer,
     pub requesters: [Requester; REQUESTER_CAPACITY],
@@ -40,7 +42,7 @@ pub struct Changed {
 
 // A condition, present where its flag is not 0.
 #[repr(C)]
-#[derive(Drop)]
+#[derive(Clone, Copy)]
 pub struct Condition {
     pub present: u8,
     pub octets: [u8; 8],
@@ -49,7 +51,7 @@ pub struct Condition {
 // A request element: the limit of an event, the timeout in seconds of a diagnostic, the conditions of
 // an event type that has a table.
 #[repr(C)]
-#[derive(Drop)]
+#[derive(Clone, Copy)]
 pub struct RequestElement {
     pub token: u8,
     pub ty: u8,
@@ -61,7 +63,7 @@ pub struct RequestElement {
 // What the request writer takes: its kind (0 event, any other diagnostic), dialog token and first
 // count elements.
 #[repr(C)]
-#[derive(Drop)]
+#[derive(Clone, Copy)]
 pub struct Request {
     pub kind: u8,
     pub dialog: u8,
@@ -72,7 +74,7 @@ pub struct Request {
 // A report frame: refused by a cause at a place; or cause 0, its kind (0 event, 1 diagnostic), dialog
 // token and number of elements.
 #[repr(C)]
-#[derive(Drop)]
+#[derive(Clone, Copy)]
 pub struct Report {
     pub cause: u8,
     pub kind: u8,
@@ -84,7 +86,7 @@ pub struct Report {
 // The fields of a report element: how many octets stand behind its status, how many subelements they
 // are (in a diagnostic), and whether they are an event of its type (1; else 0).
 #[repr(C)]
-#[derive(Drop)]
+#[derive(Clone, Copy)]
 pub struct ReportElement {
     pub token: u8,
     pub ty: u8,
@@ -98,7 +100,7 @@ pub struct ReportElement {
 // element of the frame's own ID (found 1), with the position of what stands behind its status; or one
 // of another ID (found 0). Next is the position behind it.
 #[repr(C)]
-#[derive(Drop)]
+#[derive(Clone, Copy)]
 pub struct Step {
     pub cause: u8,
     pub found: u8,

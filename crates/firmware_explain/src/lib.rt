@@ -1,5 +1,7 @@
 // The explanation of an absent event for C (include/dultxibe.h), an archive of its own: in the gate's,
 // the reader of elements and the conditions would have a second caller, and no longer be put in line.
+#![tactic(auto)]
+
 ghost use Rattle.std.specs.Prelude.{◌≡◌};
 ghost use Rattle.units.specs.Time.{elapsed_since};
 ghost use Rattle.explanations.specs.Explanations.{explanation};
@@ -12,7 +14,7 @@ use station::Station;
 // met, 4 limit reached, 5 it is reported; or 0, refused by a cause at a place. What a reason does not have
 // is 0.
 #[repr(C)]
-#[derive(Drop)]
+#[derive(Clone, Copy)]
 pub struct Explanation {
     pub reason: u8,
     pub condition: u8,

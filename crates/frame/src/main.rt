@@ -1,4 +1,6 @@
 // Document 01's frame program: lists one request frame, read from standard input.
+#![tactic(auto)]
+
 use libc::{STDIN_FILENO, STDOUT_FILENO};
 use request_listing::{LISTING, list_frame};
 

@@ -1,5 +1,7 @@
 // Example frames, one for each of document 01's causes 1 to 10 at least, and accepted ones of both
 // kinds. Each is listed; stdout has what document 01 says of them, worked out by hand.
+#![tactic(auto)]
+
 use libc::STDOUT_FILENO;
 use request_listing::{LISTING, list_frame};
 

@@ -1,5 +1,7 @@
 // The identity (IEEE: Manufacturer Information): the table of its subelements, and the one walk over
 // it.
+#![tactic(auto)]
+
 ghost use Rattle.std.specs.Prelude.{◌≡◌, ◌<◌, get_or};
 ghost use Rattle.identities.specs.Identity.{rows, past_row, stands as Identity·stands, pass_row, good_from, good_identity};
 
@@ -7,7 +9,7 @@ use octets::{octet, piece_end, size};
 
 // A row of the table: a subelement's ID, whether it must stand, and the least and the most octets of
 // its body.
-#[derive(Drop)]
+#[derive(Clone, Copy)]
 struct Row {
     pub id: u8,
     pub must: bool,
@@ -16,7 +18,7 @@ struct Row {
 }
 
 // A row's turn: is it fine, and the position behind it.
-#[derive(Drop)]
+#[derive(Clone, Copy)]
 struct Walk {
     pub fine: bool,
     pub at: usize,

@@ -49,8 +49,8 @@ lent_tail {A} o s ys a h does =
     rw (does, take_all (length s - a) (drop a s) (omega arith), drop-drop (length s - a) a s, j, drop-length s, append-nil (onto o (drop a s)))
 
 -- what a copy of known octets leaves
-pub copied : (o src s y : List ℕ) → src ≡ o → y ≡ take (length src) src ++ drop (length src) s → y ≡ onto o s
-copied o src s y e does = does ∙ ap (λ (x : List ℕ). x ++ drop (length src) s) (take-length src) ∙ ap (λ (x : List ℕ). onto x s) e
+pub copied : (o src s y : List ℕ) → src ≡ o → y ≡ onto src s → y ≡ onto o s
+copied o src s y e does = does ∙ ap (λ (x : List ℕ). onto x s) e
 
 -- ---- a writer that writes all or nothing
 

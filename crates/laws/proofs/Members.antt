@@ -48,6 +48,7 @@ are_at_most k [] = true
 are_at_most k (m ∷ ms) = leb m k && are_at_most k ms
 
 pub among_at_most : (k n : ℕ) (ms : List ℕ) → are_at_most k ms ≡ true → Among n ms → n ≤ k
+among_at_most k n [] e h = elim h [ ]
 among_at_most k n (m ∷ ms) e first = leb-true m k (and_first (leb m k) (are_at_most k ms) e)
 among_at_most k n (m ∷ ms) e (later h) = among_at_most k n ms (and_second (leb m k) (are_at_most k ms) e) h
 
@@ -55,6 +56,7 @@ among_at_most k n (m ∷ ms) e (later h) = among_at_most k n ms (and_second (leb
 
 module _ {A : Type 0} {P : A → Type 0} where
   pub all_among : {x : A} {xs : List A} → All P xs → Among x xs → P x
+  all_among nil h = elim h [ ]
   all_among (also p ps) first = p
   all_among (also p ps) (later m) = all_among ps m
 

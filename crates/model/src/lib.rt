@@ -1,5 +1,6 @@
 // The model of a station (document 01: a gate), in specs/, and the independence of its requesters
 // (demand 3), in proofs/. The code of the station meets it; here are the types that both share.
+#![tactic(auto)]
 
 // How many requesters a station has at most, and the last place of them.
 pub const REQUESTER_CAPACITY: usize = 4;
@@ -8,7 +9,7 @@ pub const REQUESTER_LAST: usize = REQUESTER_CAPACITY - 1;
 
 // A diagnostic element that is not answered yet: its token, its type (ty), its timeout in seconds.
 #[repr(C)]
-#[derive(Drop)]
+#[derive(Clone, Copy)]
 pub struct Diagnostic {
     pub token: u8,
     pub ty: u8,
@@ -16,7 +17,7 @@ pub struct Diagnostic {
 }
 
 // What a type number decides: report events, answer Incapable, cancel, or give the identity.
-#[derive(Drop)]
+#[derive(Clone, Copy)]
 pub enum Treatment {
     Report,
     Incapable,

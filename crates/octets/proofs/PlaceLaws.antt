@@ -11,6 +11,7 @@ use lib.Dec.{leb}
 use lib.ListN.{length, get_or, take, drop, set, length-take, length-drop, drop_of_length-le, get_or-eq_default}
 use lib.Seq.{drop-cons, take-length, get_or-take, get_or-drop}
 use borrow.Author.Tests.{leb-true, leb-false}
+use Rattle.laws.specs.Buffers.{onto}
 use Rattle.laws.proofs.Arrays.{fill_next}
 use Rattle.laws.proofs.Parts.{stands-first, stands-behind}
 use Rattle.octets.specs.Fields.{octets_at}
@@ -90,10 +91,10 @@ module _ (s : List ℕ) where
 
   -- a part that fills an array, copied into it
   pub octets_copied : (out y : List ℕ) (at from k : ℕ) → from ≡ min at (length s) → k ≡ length out → from + length out ≤ length s
-      → y ≡ take (length (take k (drop from s))) (take k (drop from s)) ++ drop (length (take k (drop from s))) out → y ≡ octets_at s at (length out)
+      → y ≡ onto (take k (drop from s)) out → y ≡ octets_at s at (length out)
   octets_copied out y at from k e m h does =
       let size : length (take k (drop from s)) ≡ k = length-take k (drop from s) ∙ omega (arith, length-drop from s) in
       does
-      ∙ rw (take-length (take k (drop from s)), drop_of_length-le out {i = length (take k (drop from s))} (omega (arith, size)), m) (append-nil (take (length out) (drop from s)))
+      ∙ rw (drop_of_length-le out {i = length (take k (drop from s))} (omega (arith, size)), m) (append-nil (take (length out) (drop from s)))
       ∙ sym (octets_part (length out) from h)
       ∙ octets-from (length out) at from e

@@ -1,6 +1,16 @@
 // Octets into a buffer, all of them or none.
-ghost use Rattle.std.specs.Prelude.{◌≡◌};
-ghost use Rattle.laws.specs.Buffers.{wrote, put_at};
+ghost use Rattle.std.specs.Prelude.{◌≡◌, ◌≤◌, length};
+ghost use Rattle.laws.specs.Buffers.{onto, wrote, put_at};
+
+// Octets onto the front of a buffer that has room for them; how many they are.
+pub fn copy(o: &[u8], buf: &mut [u8]) -> usize
+    requires { length o.now ≤ length buf.old }
+    ensures value { result ≡ length o.now }
+    ensures after { buf.new ≡ onto o.now buf.old }
+{
+    buf[..o.len()].copy_from_slice(o);
+    o.len()
+}
 
 // Octets behind the first `at` of a buffer; the place behind them.
 pub fn put(buf: &mut [u8], at: usize, o: &[u8]) -> usize
@@ -12,6 +22,6 @@ pub fn put(buf: &mut [u8], at: usize, o: &[u8]) -> usize
     if buf.len() - at < o.len() {
         return at;
     }
-    bytes::copy(o, &mut buf[at..]);
+    copy(o, &mut buf[at..]);
     at + o.len()
 }

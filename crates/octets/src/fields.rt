@@ -2,6 +2,7 @@
 ghost use Rattle.std.specs.Prelude.{◌≡◌, ◌≤◌, ◌<◌, length, get_or};
 ghost use Rattle.octets.specs.Fields.{pair as Fields·pair, low as Fields·low, high as Fields·high, pair_at, octets_at};
 
+use crate::buffers::copy;
 use crate::counts::least;
 
 // The octet at a position, 0 past the end.
@@ -68,5 +69,5 @@ pub fn read_at(s: &[u8], at: usize, out: &mut [u8])
     if s.len() - from < out.len() {
         return read_cut(s, from, out);
     }
-    bytes::copy(&s[from..from + out.len()], out);
+    copy(&s[from..from + out.len()], out);
 }

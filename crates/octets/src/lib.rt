@@ -1,6 +1,8 @@
 // The octets that every layer reads and writes (document 01, "Frames and elements" and "Why a call
 // is turned away"): numbers, refusals, fields, addresses, frames' heads, elements' edges, times, and
 // buffers.
+#![tactic(auto)]
+
 mod addresses;
 mod buffers;
 pub mod causes;
@@ -13,7 +15,7 @@ mod refusals;
 mod times;
 
 pub use addresses::{address_at, is_group, same_address};
-pub use buffers::put;
+pub use buffers::{copy, put};
 pub use counts::{least, less_one};
 pub use elements::piece_end;
 pub use fields::{high, low, octet, pair, pair_at, read_at, size};

@@ -1,6 +1,8 @@
 // Replays a recorded list of calls from standard input, and prints each answer. The format of the
 // records and the text of each line are those of traces; which calls they are, and the station after
 // them, are the contracts of replays.
+#![tactic(auto)]
+
 ghost use Rattle.std.specs.Prelude.{◌≡◌};
 ghost use Rattle.model.specs.Clocks.{elapsed_clock};
 ghost use Rattle.model.specs.Model.{standard};

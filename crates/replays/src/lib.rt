@@ -1,5 +1,7 @@
 // The records of a trace as calls: what each gives, the station after it, and the station after a whole
 // trace. Nothing is printed here. The format of the records is that of traces.
+#![tactic(auto)]
+
 ghost use Rattle.std.specs.Prelude.{◌≡◌, []};
 ghost use Rattle.laws.specs.Buffers.{wrote};
 ghost use Rattle.model.specs.Clocks.{elapsed_clock};
@@ -26,7 +28,7 @@ use traces::{
 pub const LONGEST: usize = 262144;
 
 // What a report call gives, and its lent buffer: the first length octets of buf.
-#[derive(Drop)]
+#[derive(Clone, Copy)]
 pub struct Reported {
     pub outcome: Outcome,
     pub buf: [u8; BUFFER],
@@ -34,7 +36,7 @@ pub struct Reported {
 }
 
 // How far the records of a trace reach, and the station after them.
-#[derive(Drop)]
+#[derive(Clone, Copy)]
 pub struct Replayed {
     pub reached: usize,
     pub station: Station,

@@ -1,4 +1,6 @@
 // Lists one report frame from standard input: the form, six octets of destination, then the frame.
+#![tactic(auto)]
+
 use libc::{STDIN_FILENO, STDOUT_FILENO};
 use report_listing::{LISTING, list_input};
 

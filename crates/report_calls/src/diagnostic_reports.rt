@@ -12,7 +12,7 @@ use requesters::{DiagnosticRequest, diagnostic_treatment};
 use requests::ELEMENT_CAPACITY;
 
 // So many octets were written, whether no element is left, and the first one that is.
-#[derive(Drop)]
+#[derive(Clone, Copy)]
 pub(crate) struct Answered {
     pub wrote: usize,
     pub done: bool,

@@ -1,4 +1,6 @@
 // What a report call gives one requester (document 01, "Giving reports").
+#![tactic(auto)]
+
 mod diagnostic_reports;
 mod event_reports;
 mod report_frames;

@@ -1,5 +1,7 @@
 // Report frames: the listing that the program `report` prints, whole, into an array that has room for
 // every one of them.
+#![tactic(auto)]
+
 ghost use Rattle.std.specs.Prelude.{◌≡◌, true, ◌+◌, ◌*◌, ◌≤◌, ◌<◌, length, get_or};
 ghost use Rattle.octets.specs.Fields.{pair_at};
 ghost use Rattle.laws.specs.Buffers.{wrote};

@@ -13,13 +13,13 @@ use events::transitions::TRANSITION_LENGTH;
 use events::{
     DRAFT, DRAFT_LENGTH, PUBLISHED_LENGTH, Times, peer_links, rsna_events, time_length, transitions,
 };
-use octets::{least, octet, put};
+use octets::{copy, least, octet, put};
 use units::TimeUnits;
 
 // A reported transition; the signals are source RCPI, source RSNI, target RCPI and target RSNI. Of an
 // event's time fields those that the form does not carry are 0.
 #[repr(C)]
-#[derive(Drop)]
+#[derive(Clone, Copy)]
 pub struct TransitionReport {
     pub times: Times,
     pub source: [u8; 6],
@@ -33,7 +33,7 @@ pub struct TransitionReport {
 // A reported RSNA event; the EAP method is 0 past its length. The RSN element stands in its places, and
 // size says how many octets it has: none where it is absent.
 #[repr(C)]
-#[derive(Drop)]
+#[derive(Clone, Copy)]
 pub struct RsnaReport {
     pub times: Times,
     pub target: [u8; 6],
@@ -46,7 +46,7 @@ pub struct RsnaReport {
 
 // A reported peer-to-peer link event.
 #[repr(C)]
-#[derive(Drop)]
+#[derive(Clone, Copy)]
 pub struct PeerLinkReport {
     pub times: Times,
     pub peer: [u8; 6],
@@ -102,7 +102,7 @@ fn copy_at(o: &[u8], at: usize, out: &mut [u8])
     requires { at + length out.old ≤ length o.now }
     ensures { out.new ≡ octets_at o.now at (length out.old) }
 {
-    bytes::copy(&o[at..at + out.len()], out);
+    copy(&o[at..at + out.len()], out);
 }
 
 // The draft's time; no published field is carried.

@@ -1,6 +1,8 @@
 // Report frames, read (document 01, causes 11, 1, 2, then 4, 5, 17, 14 and 7; before them 15, document 02
 // (g): a reader is told the form of the time fields): a frame is validated whole, a cursor hands out its
 // elements, and a decoder for each kind reads an event's octets.
+#![tactic(auto)]
+
 mod decoders;
 
 ghost use Rattle.std.specs.Prelude.{◌≡◌, true, List, ℕ, ◌+◌, ◌^◌, ◌≤◌, ◌<◌, length, get_or};
@@ -27,7 +29,7 @@ const EVENT_HEAD: usize = 3;
 // The fields of a report element: how many octets stand behind its status, how many subelements
 // they are (in a diagnostic), and whether they are an event, which the decoder of its type reads.
 #[repr(C)]
-#[derive(Drop)]
+#[derive(Clone, Copy)]
 pub struct Element {
     pub token: u8,
     pub ty: u8,
@@ -38,14 +40,14 @@ pub struct Element {
 }
 
 // A position in a frame, where an element starts.
-#[derive(Drop)]
+#[derive(Clone, Copy)]
 pub struct Cursor {
     pub at: usize,
 }
 
 // What stands at a cursor: refused; or an element of the frame's own ID, with the position of what
 // stands behind its status; or one of another ID (not found). Next is behind it.
-#[derive(Drop)]
+#[derive(Clone, Copy)]
 pub struct Step {
     pub refusal: Refusal,
     pub found: bool,
@@ -56,7 +58,7 @@ pub struct Step {
 
 // What the validation of a frame sees of a step: of the element's fields only whether it holds
 // an event and how many subelements. Next is the position behind it.
-#[derive(Drop)]
+#[derive(Clone, Copy)]
 struct Verdict {
     pub refusal: Refusal,
     pub found: bool,
@@ -66,7 +68,7 @@ struct Verdict {
 }
 
 // How far a frame is validated: refused, or the next position and the number of elements.
-#[derive(Drop)]
+#[derive(Clone, Copy)]
 struct Walk {
     pub refusal: Refusal,
     pub at: usize,
@@ -74,7 +76,7 @@ struct Walk {
 }
 
 // A frame: refused, or what it reports, its dialog token and the number of its elements.
-#[derive(Drop)]
+#[derive(Clone, Copy)]
 pub struct Report {
     pub refusal: Refusal,
     pub kind: Kind,

@@ -1,5 +1,7 @@
 // Report elements, written (document 01, "Frames and elements"): each is put whole at the front of
 // the part of a report buffer that is lent, or not at all.
+#![tactic(auto)]
+
 ghost use Rattle.std.specs.Prelude.{◌≡◌, [], ◌≤◌, length, take};
 ghost use Rattle.laws.specs.Buffers.{wrote, put_front, put_at};
 ghost use Rattle.events.specs.Transitions.{transition_length};

@@ -1,5 +1,7 @@
 // Request frames (document 01, "The frame program"): the listing, whole, into an array that has room
 // for every one of them.
+#![tactic(auto)]
+
 ghost use Rattle.std.specs.Prelude.{◌≡◌, ◌*◌, take};
 ghost use Rattle.laws.specs.Buffers.{wrote};
 ghost use Rattle.texts.specs.Text.{Puts, written, Within};

@@ -1,17 +1,19 @@
 // Request frames (document 01, "Frames and elements" and "Why a call is turned away"): the writer,
 // and what is written read back.
+#![tactic(auto)]
+
 ghost use Rattle.std.specs.Prelude.{◌≡◌, ◌≤◌, ◌<◌, length, take};
 ghost use Rattle.laws.specs.Buffers.{onto};
 ghost use Rattle.request_writer.specs.Frames.{condition_length, condition_octets, filter_octets, element_octets, elements_octets};
 ghost use Rattle.request_writer.specs.Writer.{refused_written, written_length, elements_answer, frame_answer, outcome, write_request};
 ghost use Rattle.request_writer.specs.ReadBack.{echoed};
 
-use octets::{Kind, Refusal, causes, high, low, numbers, put};
+use octets::{Kind, Refusal, causes, copy, high, low, numbers, put};
 use requests::{ELEMENT_CAPACITY, Element, Request, bad_token, lacks_element, read_request};
 use subelements::{Condition, length_of};
 
 // The writer's answer: refused, with length 0, or the frame's length.
-#[derive(Drop)]
+#[derive(Clone, Copy)]
 pub struct Written {
     pub refusal: Refusal,
     pub length: usize,
@@ -41,7 +43,7 @@ fn put_condition(buf: &mut [u8], ty: usize, id: usize, c: Condition) -> usize
     let octets = [
         id as u8, n as u8, o[0], o[1], o[2], o[3], o[4], o[5], o[6], o[7],
     ];
-    bytes::copy(&octets[..2 + n], buf)
+    copy(&octets[..2 + n], buf)
 }
 
 // The conditions of an event type, in rising ID order.
@@ -74,7 +76,7 @@ fn put_event(buf: &mut [u8], e: Element) -> usize
         e.ty,
         e.limit,
     ];
-    bytes::copy(&octets, buf);
+    copy(&octets, buf);
     5 + n
 }
 
@@ -91,7 +93,7 @@ fn put_diagnostic(buf: &mut [u8], e: Element) -> usize
         low(e.timeout),
         high(e.timeout),
     ];
-    bytes::copy(&octets, buf)
+    copy(&octets, buf)
 }
 
 // An element at the front of a buffer; its length.

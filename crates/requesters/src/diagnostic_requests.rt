@@ -26,7 +26,7 @@ pub fn diagnostic_treatment(ty: u8) -> Treatment
 }
 
 // The first count of a request's elements; the other places are free.
-#[derive(Drop)]
+#[derive(Clone, Copy)]
 struct Diagnostics {
     pub count: usize,
     pub elements: [Diagnostic; ELEMENT_CAPACITY],

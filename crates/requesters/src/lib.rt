@@ -1,4 +1,6 @@
 // One requester (document 01: a console), and what frames, the clock and the log make of its requests.
+#![tactic(auto)]
+
 mod diagnostic_requests;
 mod dialogs;
 mod event_requests;
@@ -17,7 +19,7 @@ use units::Elapsed;
 // places were logged before acceptance. Places outside first to count are free. Counts are one octet
 // each: as words they would make a station larger by a fortieth, which every call copies.
 #[repr(C)]
-#[derive(Drop)]
+#[derive(Clone, Copy)]
 pub struct EventRequest {
     pub outstanding: bool,
     pub dialog: u8,
@@ -31,7 +33,7 @@ pub struct EventRequest {
 
 // How far an event request has come: its first element left, how many events that one gave, and
 // below which place of the log its next one is.
-#[derive(Drop)]
+#[derive(Clone, Copy)]
 pub struct Progress {
     pub first: u8,
     pub given: u8,
@@ -41,7 +43,7 @@ pub struct Progress {
 // A diagnostic request, where outstanding, and the time of its acceptance. Its elements left are
 // those from first to count; the other places are free.
 #[repr(C)]
-#[derive(Drop)]
+#[derive(Clone, Copy)]
 pub struct DiagnosticRequest {
     pub accepted: Elapsed,
     pub first: u8,
@@ -53,7 +55,7 @@ pub struct DiagnosticRequest {
 
 // A requester, with the form that it follows (document 02 (g)) and at most one request of each kind.
 #[repr(C)]
-#[derive(Drop)]
+#[derive(Clone, Copy)]
 pub struct Requester {
     pub address: [u8; 6],
     pub form: u8,
@@ -62,7 +64,7 @@ pub struct Requester {
 }
 
 // The answer to a call.
-#[derive(Drop)]
+#[derive(Clone, Copy)]
 pub enum Answer {
     Accepted,
     Nothing,
@@ -72,7 +74,7 @@ pub enum Answer {
 }
 
 // What a call makes of its requester, and the answer.
-#[derive(Drop)]
+#[derive(Clone, Copy)]
 pub struct Served {
     pub requester: Requester,
     pub answer: Answer,

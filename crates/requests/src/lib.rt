@@ -1,5 +1,7 @@
 // Request frames (document 01, "Frames and elements", and causes 1 to 10 of its table): the fields
 // and the reader.
+#![tactic(auto)]
+
 ghost use Rattle.std.specs.Prelude.{◌≡◌, ◌+◌, ◌≤◌, ◌<◌, length, get_or, take};
 ghost use Rattle.requests.specs.Elements.{element_capacity, least_body, limit_at, timeout_at, table_of, subelements_of, element_of, blank_element, blank_elements, has_token, zero_token, bad_token, walk_elements};
 ghost use Rattle.requests.specs.Internal.{subelements_start};
@@ -18,7 +20,7 @@ pub const ELEMENT_CAPACITY: usize = 8;
 // What the kind of the frame does not have is 0. The fields lie without a gap: blank elements are then
 // one run of zeros.
 #[repr(C)]
-#[derive(Drop)]
+#[derive(Clone, Copy)]
 pub struct Element {
     pub token: u8,
     pub ty: u8,
@@ -30,7 +32,7 @@ pub struct Element {
 
 // What a reader finds: refused, with everything else fixed, or a request of count elements; the
 // places past them are fixed too.
-#[derive(Drop)]
+#[derive(Clone, Copy)]
 pub struct Request {
     pub refusal: Refusal,
     pub kind: Kind,
@@ -40,7 +42,7 @@ pub struct Request {
 }
 
 // What a reader finds of one event request element: refused, with the element blank, or the element.
-#[derive(Drop)]
+#[derive(Clone, Copy)]
 pub struct OneElement {
     pub refusal: Refusal,
     pub element: Element,

@@ -1,5 +1,7 @@
 // A station (document 01: a gate): its time, its identity, its log and its requesters, and the calls
 // on it.
+#![tactic(auto)]
+
 mod clock;
 mod explaining;
 mod frames;
@@ -18,7 +20,7 @@ use units::{Elapsed, Milliseconds};
 
 // The time of the latest call, and its reading, where one was made (started).
 #[repr(C)]
-#[derive(Drop)]
+#[derive(Clone, Copy)]
 pub struct Timer {
     pub now: Elapsed,
     pub last: Milliseconds,
@@ -29,7 +31,7 @@ pub struct Timer {
 // count requesters. The other requesters' places have no effect; setup, a move and a network change
 // blank them.
 #[repr(C)]
-#[derive(Drop)]
+#[derive(Clone, Copy)]
 pub struct Station {
     pub timer: Timer,
     pub identity: [u8; 252],
@@ -40,7 +42,7 @@ pub struct Station {
 }
 
 // What a call gives: the station after it, and the answer.
-#[derive(Drop)]
+#[derive(Clone, Copy)]
 pub struct Outcome {
     pub station: Station,
     pub answer: Answer,
@@ -48,7 +50,7 @@ pub struct Outcome {
 
 // What a frame or a report call changes of a station, and the answer: the identity, the log and the number
 // of requesters stay.
-#[derive(Drop)]
+#[derive(Clone, Copy)]
 pub struct Changed {
     pub timer: Timer,
     pub requesters: [Requester; REQUESTER_CAPACITY],

@@ -11,7 +11,7 @@ use crate::timers::unset;
 use crate::{Outcome, Station};
 use events::blank_log;
 use identities::good_identity;
-use octets::causes;
+use octets::{causes, copy};
 
 // The station without identity, log and requesters.
 fn nobody() -> Station
@@ -33,7 +33,7 @@ fn setup_station(identity: &[u8], list: &[[u8; 7]]) -> Station
     ensures { result ≡ setup_station identity.now list.now }
 {
     let mut octets = [0u8; 252];
-    bytes::copy(identity, &mut octets);
+    copy(identity, &mut octets);
     Station {
         timer: unset(),
         identity: octets,

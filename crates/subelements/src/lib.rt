@@ -1,5 +1,7 @@
 // The subelements of one element (document 01, "Frames and elements", and causes 7 and 8 of its
 // table): the table of lengths, and the one walker that reads it.
+#![tactic(auto)]
+
 ghost use Rattle.std.specs.Prelude.{◌≡◌, ◌≤◌, length};
 ghost use Rattle.subelements.specs.Subelements.{row_of, length_of, body_octet, body_at, walked, refused_walk, walk as Subelements·walk, tables};
 
@@ -8,7 +10,7 @@ use octets::{Refusal, causes, least, octet, piece_end, size};
 // The subelement of one ID of the table: absent (its octets 0), or present with its body (0 past
 // its length). In a request element of an event type with a table it is a condition.
 #[repr(C)]
-#[derive(Drop)]
+#[derive(Clone, Copy)]
 pub struct Condition {
     pub present: bool,
     pub octets: [u8; 8],
@@ -16,7 +18,7 @@ pub struct Condition {
 
 // How far a walk has come: refused, or the next position, the number of subelements walked, and the
 // condition of each ID of the table.
-#[derive(Drop)]
+#[derive(Clone, Copy)]
 pub struct Subelements {
     pub refusal: Refusal,
     pub at: usize,
@@ -28,7 +30,7 @@ pub struct Subelements {
 pub const TABLES: usize = 3;
 
 // A body length, and the one where the body's first octet is 254. 0: the ID is reserved.
-#[derive(Drop)]
+#[derive(Clone, Copy)]
 pub struct Length {
     pub plain: usize,
     pub expanded: usize,

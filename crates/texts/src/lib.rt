@@ -1,5 +1,7 @@
 // Text in ASCII, into a buffer: names with numbers behind them, octets in hexadecimal, and the lines
 // that several programs print.
+#![tactic(auto)]
+
 ghost use Rattle.std.specs.Prelude.{◌≡◌, ◌&&◌, ◌++◌, ◌+◌, ◌*◌, ◌%◌, ◌≤◌, ◌<◌, eqb, leb, length};
 ghost use Rattle.laws.specs.Buffers.{wrote, put_at};
 ghost use Rattle.texts.specs.Text.{digit as Text·digit, decimal, named, hexed, hexes, refusal_line, refusal_most, frame_line, element_head, Puts, written, Within};

@@ -8,21 +8,21 @@ use octets::{Kind, address_at, kind_of, octet, pair_at, read_at, time_at};
 use units::Milliseconds;
 
 // Octets of the input, from one position to another.
-#[derive(Drop)]
+#[derive(Clone, Copy)]
 pub struct Span {
     pub from: usize,
     pub to: usize,
 }
 
 // Behind the identity are a number of requesters, and they.
-#[derive(Drop)]
+#[derive(Clone, Copy)]
 pub struct SetupCall {
     pub identity: Span,
     pub count: u8,
     pub list: usize,
 }
 
-#[derive(Drop)]
+#[derive(Clone, Copy)]
 pub struct FrameCall {
     pub reading: Milliseconds,
     pub destination: [u8; 6],
@@ -31,7 +31,7 @@ pub struct FrameCall {
 }
 
 // The buffer has a length, and is filled with one octet.
-#[derive(Drop)]
+#[derive(Clone, Copy)]
 pub struct ReportCall {
     pub reading: Milliseconds,
     pub requester: [u8; 6],
@@ -41,21 +41,21 @@ pub struct ReportCall {
 }
 
 // A move or a network change; its requesters stand at a position.
-#[derive(Drop)]
+#[derive(Clone, Copy)]
 pub struct MoveCall {
     pub reading: Milliseconds,
     pub count: u8,
     pub list: usize,
 }
 
-#[derive(Drop)]
+#[derive(Clone, Copy)]
 pub struct RsnaCall {
     pub event: RsnaEvent,
     pub rsn: Span,
 }
 
 // The elements stand at a position.
-#[derive(Drop)]
+#[derive(Clone, Copy)]
 pub struct WriterCall {
     pub length: u16,
     pub fill: u8,
@@ -65,7 +65,7 @@ pub struct WriterCall {
     pub elements: usize,
 }
 
-#[derive(Drop)]
+#[derive(Clone, Copy)]
 pub struct ReaderCall {
     pub form: u8,
     pub destination: [u8; 6],
@@ -73,7 +73,7 @@ pub struct ReaderCall {
 }
 
 // How many places of the log were logged before acceptance, and a position in the log.
-#[derive(Drop)]
+#[derive(Clone, Copy)]
 pub struct ExplainCall {
     pub element: Span,
     pub count: u16,

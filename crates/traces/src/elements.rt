@@ -9,7 +9,7 @@ use subelements::{Condition, TABLES, body, length_of};
 
 // The first conditions of an element, and where they end; 0: refused. The next ID is not below the least
 // one.
-#[derive(Drop)]
+#[derive(Clone, Copy)]
 struct Conditions {
     pub end: usize,
     pub least: usize,
@@ -17,14 +17,14 @@ struct Conditions {
 }
 
 // One element, and where it ends; 0: refused.
-#[derive(Drop)]
+#[derive(Clone, Copy)]
 struct Recorded {
     pub end: usize,
     pub element: Element,
 }
 
 // The first eight elements, and where all of them end; 0: refused.
-#[derive(Drop)]
+#[derive(Clone, Copy)]
 pub struct Elements {
     pub end: usize,
     pub elements: [Element; ELEMENT_CAPACITY],

@@ -1,5 +1,7 @@
 // Traces: recorded lists of calls, as the program `replay` reads them, and the text of the answers.
 // Fields are least octet first. A position of 0 means refused, and so is what stands behind it.
+#![tactic(auto)]
+
 mod calls;
 mod elements;
 mod places;

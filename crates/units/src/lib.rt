@@ -1,21 +1,23 @@
 // Time: milliseconds of the counter, elapsed milliseconds, TUs, and every conversion between units
 // (document 01, "Clock and transition time"; document 02 (c)).
+#![tactic(auto)]
+
 ghost use Rattle.std.specs.Prelude.{◌≡◌, ◌*◌};
 ghost use Rattle.units.specs.Time.{age, advance, elapsed_since, exceeds, tus_of, at_least};
 
 // Milliseconds of the 32-bit counter (document 01: a reading, the difference of two, or a limit).
 #[repr(C)]
-#[derive(Drop)]
+#[derive(Clone, Copy)]
 pub struct Milliseconds(pub u32);
 
 // Milliseconds since a gate's first call (document 02 (c): a stamp or an acceptance time), or between two such times.
 #[repr(C)]
-#[derive(Drop)]
+#[derive(Clone, Copy)]
 pub struct Elapsed(pub u64);
 
 // Time units of 1,024 microseconds (document 01: TUs).
 #[repr(C)]
-#[derive(Drop)]
+#[derive(Clone, Copy)]
 pub struct TimeUnits(pub u16);
 
 impl Milliseconds {
@@ -27,7 +29,7 @@ impl Milliseconds {
     pub fn since(self, earlier: Milliseconds) -> Milliseconds
         ensures { result.0 ≡ age self.0 earlier.0 }
     {
-        Milliseconds(std::num::wrapping_sub_u32(self.0, earlier.0))
+        Milliseconds(self.0.wrapping_sub(earlier.0))
     }
 
     pub fn from_seconds(n: u16) -> Milliseconds

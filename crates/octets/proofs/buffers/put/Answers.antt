@@ -1,0 +1,25 @@
+-- `octets::put` meets its contract: all that lies behind the first octets is lent to the copy.
+-- Assumes nothing.
+use Prim.Native.Nat.{◌+◌, ◌-◌}
+use mathlib.Core.Path.{refl, sym, ap, ◌∙◌}
+use native.Mathlib.Omega.{arith}
+use lib.ListN.{length, take, drop}
+use Rattle.laws.specs.Buffers.{wrote}
+use Rattle.laws.proofs.Buffers.{put_at-fits, put_at-short, copied, lent_tail}
+use borrow.Author.Rules.{rules}
+use Rattle.octets.proofs.buffers.put.Goals as goal
+
+pub returns-then-buf-at : goal.returns-then-buf-at
+returns-then-buf-at c = sym (put_at-short _ _ _ (omega arith))
+
+pub returns-then-buf-at-2 : goal.returns-then-buf-at-2
+returns-then-buf-at-2 c = sym (put_at-short _ _ _ (omega arith))
+
+pub returns : goal.returns
+returns c =    let a = c.args in
+    let s = a.buf.now in
+    let o = a.o.now in
+    sym
+    (put_at-fits o a.at s (omega arith)
+    ∙ ap (wrote (a.at + length o))
+    (sym (lent_tail o s c.copy.new.buf a.at (omega arith) (copied o o (take (length s - a.at) (drop a.at s)) c.copy.new.buf refl c.copy.ensures.after))))

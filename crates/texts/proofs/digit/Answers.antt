@@ -1,0 +1,15 @@
+-- `texts::digit` meets its contract.
+-- Assumes nothing.
+use borrow.Author.Tests.{lt-ltb, le-ltb}
+use Rattle.laws.specs.Choice.{if◌then◌else◌}
+use Rattle.texts.specs.Text.{digit}
+use borrow.Author.Rules.{rules}
+use Rattle.texts.proofs.digit.Goals as goal
+
+pub returns-then-x-lt10 : goal.returns-then-x-lt10
+unfolding digit if◌then◌else◌
+returns-then-x-lt10 c = rw (lt-ltb _ _ c.if-x-lt10.true)
+
+pub returns-else-x-lt10 : goal.returns-else-x-lt10
+unfolding digit if◌then◌else◌
+returns-else-x-lt10 c = rw (le-ltb _ _ c.if-x-lt10.false)

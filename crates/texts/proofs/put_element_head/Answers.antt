@@ -1,0 +1,10 @@
+-- `texts::put_element_head` meets its contract.
+-- Assumes nothing.
+use Rattle.texts.specs.Text.{element_head}
+use Rattle.texts.proofs.PutLaws.{short, both}
+use borrow.Author.Rules.{rules}
+use Rattle.texts.proofs.put_element_head.Goals as goal
+
+pub returns : goal.returns
+unfolding element_head
+returns c = both (both (short c.put_octet-next.ensures) (short c.put_octet-next-2.ensures)) (short c.put_octet.ensures)
