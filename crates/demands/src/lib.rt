@@ -5,7 +5,7 @@
 
 ghost use Rattle.std.specs.Prelude.{[]};
 ghost use Rattle.events.specs.Loggings.{transition, rsna, peer_link};
-ghost use Rattle.model.specs.Model.{clock, logging, frame, report as Model·report, roam as Model·roam, change};
+ghost use Rattle.model.specs.Model.{clock, logging, frame, report as model_report, roam as model_roam, change};
 ghost use Rattle.demands.specs.Chains.{Allowed, SetUp};
 
 use events::{PeerLink, RsnaEvent, Transition};
@@ -62,13 +62,13 @@ pub fn report(
     kind: Kind,
     buf: &mut [u8],
 ) -> Outcome
-    ensures { Allowed g (record { call = Model·report reading.0 source kind buf.old; outcome = result; buffer = buf.new }) }
+    ensures { Allowed g (record { call = model_report reading.0 source kind buf.old; outcome = result; buffer = buf.new }) }
 {
     g.report(reading, source, kind, buf)
 }
 
 pub fn roam(g: Station, reading: Milliseconds, list: &[[u8; 7]]) -> Outcome
-    ensures { Allowed g (record { call = Model·roam reading.0 list.now; outcome = result; buffer = [] }) }
+    ensures { Allowed g (record { call = model_roam reading.0 list.now; outcome = result; buffer = [] }) }
 {
     g.roam(reading, list)
 }

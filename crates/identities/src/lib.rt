@@ -3,7 +3,7 @@
 #![tactic(auto)]
 
 ghost use Rattle.std.specs.Prelude.{◌≡◌, ◌<◌, get_or};
-ghost use Rattle.identities.specs.Identity.{rows, past_row, stands as Identity·stands, pass_row, good_from, good_identity};
+ghost use Rattle.identities.specs.Identity.{rows, past_row, stands as identity_stands, pass_row, good_from, good_identity};
 
 use octets::{octet, piece_end, size};
 
@@ -96,7 +96,7 @@ fn row_at(i: usize) -> Row
 
 // Does the subelement of a row stand at a position?
 fn stands(s: &[u8], at: usize, row: Row) -> bool
-    ensures { result ≡ Identity·stands s.now at row }
+    ensures { result ≡ identity_stands s.now at row }
 {
     if s.len() <= at {
         return false;

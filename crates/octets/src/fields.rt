@@ -1,6 +1,6 @@
 // Fields of one octet, of two, least octet first, and of more.
 ghost use Rattle.std.specs.Prelude.{◌≡◌, ◌≤◌, ◌<◌, length, get_or};
-ghost use Rattle.octets.specs.Fields.{pair as Fields·pair, low as Fields·low, high as Fields·high, pair_at, octets_at};
+ghost use Rattle.octets.specs.Fields.{pair as fields_pair, low as fields_low, high as fields_high, pair_at, octets_at};
 
 use crate::buffers::copy;
 use crate::counts::least;
@@ -21,20 +21,20 @@ pub fn size(s: &[u8], at: usize) -> usize
 
 // The field of two octets.
 pub fn pair(low: u8, high: u8) -> u16
-    ensures { result ≡ Fields·pair low high }
+    ensures { result ≡ fields_pair low high }
 {
     (low as u16) + 256 * (high as u16)
 }
 
 // The two octets of a field.
 pub fn low(x: u16) -> u8
-    ensures { result ≡ Fields·low x }
+    ensures { result ≡ fields_low x }
 {
     (x % 256) as u8
 }
 
 pub fn high(x: u16) -> u8
-    ensures { result ≡ Fields·high x }
+    ensures { result ≡ fields_high x }
 {
     (x / 256) as u8
 }

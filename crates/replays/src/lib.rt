@@ -5,7 +5,7 @@
 ghost use Rattle.std.specs.Prelude.{◌≡◌, []};
 ghost use Rattle.laws.specs.Buffers.{wrote};
 ghost use Rattle.model.specs.Clocks.{elapsed_clock};
-ghost use Rattle.model.specs.Model.{standard, report as Model·report};
+ghost use Rattle.model.specs.Model.{standard, report as model_report};
 ghost use Rattle.model.specs.Stations.{step};
 ghost use Rattle.texts.specs.Text.{written, Within};
 ghost use Rattle.report_listing.specs.Listing.{frame_listing, report_listing_most};
@@ -85,7 +85,7 @@ fn take_frame(g: Station, s: &[u8], at: usize) -> Outcome
 }
 
 fn report_into(g: Station, c: ReportCall, buf: &mut [u8]) -> Outcome
-    ensures { view_outcome result buf.new ≡ step elapsed_clock standard (view g) (Model·report c.reading.0 c.requester c.kind buf.old) }
+    ensures { view_outcome result buf.new ≡ step elapsed_clock standard (view g) (model_report c.reading.0 c.requester c.kind buf.old) }
 {
     let reading = c.reading;
     let requester = c.requester;

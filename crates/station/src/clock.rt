@@ -2,7 +2,7 @@
 ghost use Rattle.std.specs.Prelude.{◌≡◌, []};
 ghost use Rattle.model.specs.Clocks.{elapsed_clock};
 ghost use Rattle.model.specs.Model.{standard, clock};
-ghost use Rattle.model.specs.Stations.{tick as Stations·tick, step};
+ghost use Rattle.model.specs.Stations.{tick as stations_tick, step};
 ghost use Rattle.station.specs.Internal.{ticked_station};
 ghost use Rattle.station.specs.Views.{view, view_outcome};
 
@@ -14,7 +14,7 @@ use units::Milliseconds;
 
 // What every call makes of the station first: its time is the call's, then the late drop.
 pub(crate) fn ticked(g: Station, reading: Milliseconds) -> Station
-    ensures result_value { view result ≡ Stations·tick elapsed_clock reading.0 (view g) }
+    ensures result_value { view result ≡ stations_tick elapsed_clock reading.0 (view g) }
     ensures value { result ≡ ticked_station g reading.0 result.requesters }
 {
     let before = g.timer;

@@ -1,6 +1,6 @@
 // Frame calls.
 ghost use Rattle.std.specs.Prelude.{◌≡◌, [], length};
-ghost use Rattle.events.specs.Log.{logged as Log·logged};
+ghost use Rattle.events.specs.Log.{logged as log_logged};
 ghost use Rattle.model.specs.Clocks.{elapsed_clock};
 ghost use Rattle.model.specs.Model.{standard, frame};
 ghost use Rattle.model.specs.Stations.{request_call, step};
@@ -20,7 +20,7 @@ use units::Milliseconds;
 
 // How many entries are logged.
 fn logged_in(log: Log) -> u8
-    ensures { result ≡ length (Log·logged log) }
+    ensures { result ≡ length (log_logged log) }
 {
     least(log.count, LOG_CAPACITY) as u8
 }

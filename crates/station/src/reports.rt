@@ -2,7 +2,7 @@
 ghost use Rattle.std.specs.Prelude.{◌≡◌};
 ghost use Rattle.units.specs.Time.{elapsed_since};
 ghost use Rattle.model.specs.Clocks.{elapsed_clock};
-ghost use Rattle.model.specs.Model.{standard, report as Model·report};
+ghost use Rattle.model.specs.Model.{standard, report as model_report};
 ghost use Rattle.events.specs.Log.{logged};
 ghost use Rattle.model.specs.Stations.{give_report, step};
 ghost use Rattle.requesters.specs.Views.{view_identity, view_requester, view_served};
@@ -49,7 +49,7 @@ impl Station {
         kind: Kind,
         buf: &mut [u8],
     ) -> Changed
-        ensures { view_outcome (changed_outcome self result) buf.new ≡ step elapsed_clock standard (view self) (Model·report reading.0 source kind buf.old) }
+        ensures { view_outcome (changed_outcome self result) buf.new ≡ step elapsed_clock standard (view self) (model_report reading.0 source kind buf.old) }
     {
         let before = self.timer;
         let timer = advanced(before, reading);
@@ -81,7 +81,7 @@ impl Station {
         kind: Kind,
         buf: &mut [u8],
     ) -> Outcome
-        ensures { view_outcome result buf.new ≡ step elapsed_clock standard (view self) (Model·report reading.0 source kind buf.old) }
+        ensures { view_outcome result buf.new ≡ step elapsed_clock standard (view self) (model_report reading.0 source kind buf.old) }
     {
         changed(self, self.reported(reading, source, kind, buf))
     }

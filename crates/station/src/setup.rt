@@ -1,7 +1,7 @@
 // Setup.
 ghost use Rattle.std.specs.Prelude.{◌≡◌, [], ◌≤◌, length};
 ghost use Rattle.model.specs.Model.{standard};
-ghost use Rattle.model.specs.Stations.{nobody as Stations·nobody, setup as Stations·setup};
+ghost use Rattle.model.specs.Stations.{nobody as stations_nobody, setup as stations_setup};
 ghost use Rattle.station.specs.Memory.{setup_station, Leaves};
 ghost use Rattle.station.specs.Views.{view, view_outcome};
 
@@ -15,7 +15,7 @@ use octets::{causes, copy};
 
 // The station without identity, log and requesters.
 fn nobody() -> Station
-    ensures { view result ≡ Stations·nobody }
+    ensures { view result ≡ stations_nobody }
 {
     Station {
         timer: unset(),
@@ -47,7 +47,7 @@ fn setup_station(identity: &[u8], list: &[[u8; 7]]) -> Station
 impl Station {
     // Names the identity and the requesters.
     pub fn setup(identity: &[u8], list: &[[u8; 7]]) -> Outcome
-        ensures result_value { view_outcome result [] ≡ Stations·setup standard identity.now list.now }
+        ensures result_value { view_outcome result [] ≡ stations_setup standard identity.now list.now }
         ensures leaves { Leaves result (setup_station identity.now list.now) }
     {
         if bad_list(list) {

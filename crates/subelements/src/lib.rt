@@ -3,7 +3,7 @@
 #![tactic(auto)]
 
 ghost use Rattle.std.specs.Prelude.{◌≡◌, ◌≤◌, length};
-ghost use Rattle.subelements.specs.Subelements.{row_of, length_of, body_octet, body_at, walked, refused_walk, walk as Subelements·walk, tables};
+ghost use Rattle.subelements.specs.Subelements.{row_of, length_of, body_octet, body_at, walked, refused_walk, walk as subelements_walk, tables};
 
 use octets::{Refusal, causes, least, octet, piece_end, size};
 
@@ -154,7 +154,7 @@ fn refused(number: u8, place: usize) -> Subelements
 // The subelements of a request element of an event type, from a position to its end. A type without a
 // table has them walked for their edges only.
 pub fn walk(s: &[u8], ty: usize, from: usize, end: usize) -> Subelements
-    ensures { result ≡ Subelements·walk s.now ty from end }
+    ensures { result ≡ subelements_walk s.now ty from end }
 {
     let mut w = walk_of(Refusal::none(), from);
     while w.at < end {
@@ -188,7 +188,7 @@ pub fn walk(s: &[u8], ty: usize, from: usize, end: usize) -> Subelements
 
 // The subelements of a diagnostic report, which are walked for their edges only: no table, no filter.
 pub fn walk_edges(s: &[u8], from: usize, end: usize) -> Subelements
-    ensures { result ≡ Subelements·walk s.now tables from end }
+    ensures { result ≡ subelements_walk s.now tables from end }
 {
     let mut at = from;
     let mut count: usize = 0;

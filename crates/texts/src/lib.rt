@@ -4,7 +4,7 @@
 
 ghost use Rattle.std.specs.Prelude.{◌≡◌, ◌&&◌, ◌++◌, ◌+◌, ◌*◌, ◌%◌, ◌≤◌, ◌<◌, eqb, leb, length};
 ghost use Rattle.laws.specs.Buffers.{wrote, put_at};
-ghost use Rattle.texts.specs.Text.{digit as Text·digit, decimal, named, hexed, hexes, refusal_line, refusal_most, frame_line, element_head, Puts, written, Within};
+ghost use Rattle.texts.specs.Text.{digit as text_digit, decimal, named, hexed, hexes, refusal_line, refusal_most, frame_line, element_head, Puts, written, Within};
 
 use octets::{Refusal, less_one, put};
 
@@ -34,14 +34,14 @@ pub fn put_two(buf: &mut [u8], at: usize, front: &[u8], back: &[u8]) -> usize
 // The character of a digit below 16.
 fn digit(x: u8) -> u8
     requires { x < 16 }
-    ensures { result ≡ Text·digit x }
+    ensures { result ≡ text_digit x }
 {
     if x < 10 { 48 + x } else { 87 + x }
 }
 
 // The last decimal digit of a number.
 fn last_digit(n: u64) -> u8
-    ensures { result ≡ Text·digit (n % 10) }
+    ensures { result ≡ text_digit (n % 10) }
 {
     digit((n % 10) as u8)
 }

@@ -1,6 +1,6 @@
 // Where each record ends; 0: refused.
 ghost use Rattle.std.specs.Prelude.{◌≡◌, ◌+◌, ◌≤◌, ◌<◌, length};
-ghost use Rattle.traces.specs.Places.{place_behind_record as Places·behind, bad_length, octets_end, list_end};
+ghost use Rattle.traces.specs.Places.{place_behind_record as places_behind, bad_length, octets_end, list_end};
 ghost use Rattle.traces.specs.Records.{report_call_end, good_action, writer_call_end, fields_end, record_end};
 
 use crate::elements::elements_at;
@@ -11,7 +11,7 @@ const MOST: u16 = 4096;
 
 // Where so many octets from a position on end; behind what is refused, 0.
 pub(crate) fn behind(s: &[u8], at: usize, n: usize) -> usize
-    ensures { result ≡ Places·behind s.now at n }
+    ensures { result ≡ places_behind s.now at n }
 {
     if at == 0 {
         return 0;

@@ -11,6 +11,9 @@ use Rattle.subelements.proofs.Laws.{Walking, walking_start, walking_end, moves, 
 use Rattle.subelements.proofs.Tables.{no_length}
 use Rattle.subelements.proofs.walk_edges.Given as goal
 
+abbrev pub edges : ℕ → ℕ → Subelements
+edges at count = record { refusal = no_refusal; at = at; count = count; filter = no_filter }
+
 abbrev pub invariant-loop-at : goal.invariant-loop-at
 invariant-loop-at l = Walking l.s 3 l.from l.end (edges l.at l.count)
 

@@ -19,12 +19,12 @@ unfolding decimal
 loop-i-init c = (refl, record { places = refl; within = omega arith; same = refl })
 
 pub returns-then-is_first : goal.returns-then-is_first
-returns-then-is_first c =    let i = c.before.before.before.before.before.before.before.before.before.before.loop.invariant in
-    let t = c.before.before.before.before.before.before.before.before.before.before.loop.text in
-    let at = c.before.before.before.before.before.before.before.before.before.before.loop.i - 1 in
-    let d = c.before.before.before.before.before.before.before.before.last-digit.result in
+returns-then-is_first c =    let i = c.loop-i.invariant in
+    let t = c.loop-i.text in
+    let at = c.loop-i.i - 1 in
+    let d = c.last_digit.result in
     let l = long i.1 d in
-    let o = rw (← c.before.before.before.before.before.before.before.before.last-digit.ensures) at (spelling_last i.1 c.before.before.before.before.before.before.before.before.before.loop-test.true (sym c.before.before.before.before.before.before.before.is-first.ensures ∙ c.before.before.before.before.before.before.if1.true)) in
+    let o = rw (← c.last_digit.ensures) at (spelling_last i.1 c.loop-i-test.true (sym c.is_first.ensures ∙ c.if-is_first.true)) in
     let whole = take_all (20 - at) (drop at (set t at d)) (omega (arith, length-drop at (set t at d))) ∙ o in
     rw (← i.0, ← whole) c.put_two.ensures
 
