@@ -1,0 +1,16 @@
+-- `requests::event_start` meets its contract.
+-- Assumes nothing.
+use borrow.Author.Tests.{lt-ltb, le-ltb}
+use Rattle.laws.specs.Choice.{if◌then◌else◌}
+use Rattle.requests.specs.Internal.{subelements_start}
+use borrow.Author.Rules.{rules}
+use Rattle.octets.proofs.octet.Reads as octet-reads
+use Rattle.requests.proofs.event_start.Goals as goal
+
+pub returns-then-size-lt-TABLES : goal.returns-then-size-lt-TABLES
+unfolding subelements_start if◌then◌else◌
+returns-then-size-lt-TABLES c = rw (← c.size.ensures.0, lt-ltb _ _ c.if-size-lt-TABLES.true)
+
+pub returns : goal.returns
+unfolding subelements_start if◌then◌else◌
+returns c = rw (← c.size.ensures.0, le-ltb _ _ c.if-size-lt-TABLES.false)
