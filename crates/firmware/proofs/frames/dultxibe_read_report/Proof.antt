@@ -13,7 +13,7 @@ number-of-requires : tie.Need-number-of-requires
 number-of-requires c κs = search rules
 
 returns : tie.Need-returns
-returns c = rw c.number_of_lem.ensures (ap numbered_report c.before.read-report.ensures)
+returns c = rw c.number-of.ensures (ap numbered_report c.before.read-report.ensures)
 
 pub dultxibe-read-report-spec : {M : Type 1} → statement M
 dultxibe-read-report-spec = tie.close (tie.spec read-report-requires number-of-requires returns)

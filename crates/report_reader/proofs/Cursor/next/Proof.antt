@@ -28,7 +28,7 @@ unfolding cursor_step if◌then◌else◌
 returns c =
     let a = c.before.before.before.before.before.before.args in
     let verdict = c.before.validate-held.ensures ∙ c.before.before.outline-at.ensures.told in
-    rw (← c.before.before.before.before.is-form.ensures, c.before.before.before.if1.true) (c.step_of_lem.ensures ∙ rw verdict (step-told a.form a.s.now a.kind a.self.at))
+    rw (← c.before.before.before.before.is-form.ensures, c.before.before.before.if1.true) (c.step-of.ensures ∙ rw verdict (step-told a.form a.s.now a.kind a.self.at))
 
 refused-requires : tie.Need-refused-requires
 refused-requires c κs = search rules

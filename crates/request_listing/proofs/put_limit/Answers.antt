@@ -1,0 +1,15 @@
+-- `request_listing::put_limit` meets its contract.
+-- Assumes nothing.
+use native.Mathlib.Omega.{arith}
+use Rattle.texts.proofs.PutLaws.{short, at_most}
+use Rattle.request_listing.specs.Listing.{limit_field}
+use borrow.Author.Rules.{rules}
+use Rattle.request_listing.proofs.put_limit.Goals as goal
+
+pub returns-in-Event : goal.returns-in-Event
+unfolding limit_field
+returns-in-Event c = rw c.in-Event.is (at_most 14 (omega arith) (short (c.put_octet.ensures.buf_after, c.put_octet.ensures.n_in_bounds)))
+
+pub returns-in-Diagnostic : goal.returns-in-Diagnostic
+unfolding limit_field
+returns-in-Diagnostic c = rw c.in-Diagnostic.is (short (c.put_pair.ensures.buf_after, c.put_pair.ensures.n_in_bounds))
