@@ -1,0 +1,10 @@
+-- `report_reader::decoders::pad` meets its contract.
+-- Assumes nothing.
+use mathlib.Core.Path.{refl}
+use native.Mathlib.Omega.{arith}
+use Rattle.report_reader.proofs.DecoderLaws.{first-padded}
+use borrow.Author.Rules.{rules}
+use Rattle.report_reader.proofs.decoders.pad.Goals as goal
+
+pub returns : goal.returns
+returns c h = first-padded _ _ _ _ _ refl c.requires h c.put.ensures

@@ -1,0 +1,9 @@
+-- `report_reader::element_at` meets its contract.
+-- Assumes nothing.
+use Rattle.report_reader.specs.Internal.{found_element}
+use borrow.Author.Rules.{rules}
+use Rattle.report_reader.proofs.element_at.Goals as goal
+
+pub returns : goal.returns
+unfolding found_element
+returns c = search rules

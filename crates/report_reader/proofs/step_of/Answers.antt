@@ -1,0 +1,15 @@
+-- `report_reader::step_of` meets its contract.
+-- Assumes nothing.
+use native.Mathlib.Omega.{arith}
+use Rattle.laws.specs.Choice.{if◌then◌else◌}
+use Rattle.report_reader.specs.Internal.{step_of}
+use borrow.Author.Rules.{rules}
+use Rattle.report_reader.proofs.step_of.Goals as goal
+
+pub returns-then-v : goal.returns-then-v
+unfolding step_of if◌then◌else◌
+returns-then-v c = rw (c.none.ensures, c.element_at.ensures, c.if-v.true)
+
+pub returns : goal.returns
+unfolding step_of if◌then◌else◌
+returns c = rw c.if-v.false

@@ -1,0 +1,37 @@
+-- `request_writer::put_filter` meets its contract. The invariant, `Putting`: the conditions before this one stand at the front.
+-- Assumes nothing.
+use Prim.Native.Nat.{◌≤◌, ◌+◌, ◌-◌}
+use mathlib.Core.Path.{◌≡◌}
+use native.Mathlib.Omega.{arith}
+use lib.ListN.{length, get_or, drop}
+use borrow.Author.Rules.{rules}
+use Rattle.laws.specs.Buffers.{pieces}
+use Rattle.laws.proofs.Buffers.{Putting, putting_start, putting_room, putting_length, putting_fits, putting_within, putting_next, putting_done, putting_end}
+use Rattle.laws.proofs.Pieces.{pieces_next, pieces_end}
+use Rattle.laws.proofs.Arrays.{length_mapped}
+use Rattle.subelements.specs.Subelements.{past_filter}
+use Rattle.request_writer.specs.Frames.{condition_octets, filter_octets}
+use Rattle.request_writer.proofs.Lengths.{filter-length}
+use Rattle.request_writer.proofs.put_filter.Goals as goal
+
+pub put_condition-at-requires : goal.put_condition-at-requires
+put_condition-at-requires c =    let i = c.loop-id.invariant in
+    let a = c.args in
+    let f = a.filter in
+    let id = c.loop-id.id in
+    let next = pieces_next (condition_octets a.ty) f id past_filter (omega (arith, i.1)) in
+    (omega arith, putting_fits i.2 (condition_octets a.ty id (get_or f id past_filter)) (pieces (condition_octets a.ty) (id + 1) (drop (id + 1) f)) next)
+
+pub loop-id-preserved : goal.loop-id-preserved
+loop-id-preserved c =    let i = c.loop-id.invariant in
+    let a = c.args in
+    let f = a.filter in
+    let id = c.loop-id.id in
+    let next = pieces_next (condition_octets a.ty) f id past_filter (omega (arith, i.1)) in
+    (omega arith, i.1, rw c.put_condition-at.ensures.value (putting_next i.2 (condition_octets a.ty id (get_or f id past_filter)) (pieces (condition_octets a.ty) (id + 1) (drop (id + 1) f)) next c.put_condition-at.new.buf c.put_condition-at.ensures.buf_after))
+
+pub returns-clause-value : goal.returns-clause-value
+returns-clause-value c = let i = c.loop-id.invariant in let e = pieces_end (condition_octets c.args.ty) c.args.filter c.loop-id.id (omega (arith, i.1)) in let n = putting_end i.2 e in (n, omega (arith, n, filter-length c.args.ty c.args.filter i.1))
+
+pub returns-clause-buf_after : goal.returns-clause-buf_after
+returns-clause-buf_after c = let i = c.loop-id.invariant in let e = pieces_end (condition_octets c.args.ty) c.args.filter c.loop-id.id (omega (arith, i.1)) in let n = putting_end i.2 e in putting_done i.2 e
