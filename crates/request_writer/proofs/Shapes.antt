@@ -35,5 +35,9 @@ each_mapped f into tells (x ∷ xs) (u ∷ us) p = also (tells x u p.0) (each_ma
 
 pub shaped : (es : List Element) (us : List Val) → shadow (each Element (e_struct the_type the_laws the_copy).ty.own_val es us) → All ElementLengths es
 shaped =
-    each_all _
-    (λ x u p. record { filter = search (rules, length_mapped); octets = each_mapped _ _ (λ y v q. search rules) x.filter _ p.1.1.1.1.1.1.1.0.1.1 })
+    each_all (e_struct the_type the_laws the_copy).ty.own_val
+    (λ x u p.
+      record {
+        filter = let h = p.1.1.1.1.1.1.1.0 in search rules;
+        octets = each_all (Rattle.subelements.specs.contracts.Condition.the_row).own_val (λ y v q. let h = q.1.1.0 in search rules) x.filter _ p.1.1.1.1.1.1.1.0.1.1;
+      })

@@ -1,0 +1,10 @@
+-- `report_listing::put_clock` meets its contract.
+-- Assumes nothing.
+use Rattle.texts.proofs.PutLaws.{both}
+use Rattle.report_listing.specs.Listing.{clock_text}
+use borrow.Author.Rules.{rules}
+use Rattle.report_listing.proofs.put_clock.Goals as goal
+
+pub returns : goal.returns
+unfolding clock_text
+returns c = both (both (both c.put_time_octet-next.ensures c.put_time_octet-next-2.ensures) c.put_time_octet-next-3.ensures) c.put_time_field.ensures

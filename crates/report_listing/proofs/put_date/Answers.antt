@@ -1,0 +1,10 @@
+-- `report_listing::put_date` meets its contract.
+-- Assumes nothing.
+use Rattle.texts.proofs.PutLaws.{both}
+use Rattle.report_listing.specs.Listing.{date_text}
+use borrow.Author.Rules.{rules}
+use Rattle.report_listing.proofs.put_date.Goals as goal
+
+pub returns : goal.returns
+unfolding date_text
+returns c = both (both c.put_time_field-next.ensures c.put_time_octet-next.ensures) c.put_time_octet.ensures

@@ -1,0 +1,10 @@
+-- `report_listing::put_head` meets its contract.
+-- Assumes nothing.
+use Rattle.texts.proofs.PutLaws.{short, both}
+use Rattle.report_listing.specs.Listing.{head_text}
+use borrow.Author.Rules.{rules}
+use Rattle.report_listing.proofs.put_head.Goals as goal
+
+pub returns : goal.returns
+unfolding head_text
+returns c = both (rw c.report_id.ensures at c.put_element_head-next.ensures) (short (c.put_octet.ensures.buf_after, c.put_octet.ensures.n_in_bounds))

@@ -1,0 +1,18 @@
+-- `report_listing::put_peer_link` meets its contract.
+-- Assumes nothing.
+use mathlib.Core.Path.{◌≡◌}
+use native.Mathlib.Omega.{arith}
+use lib.ListN.{length}
+use Rattle.texts.proofs.PutLaws.{short, at_most, both}
+use Rattle.report_listing.specs.Listing.{peer_link_text}
+use Rattle.report_listing.specs.Internal.{event_most}
+use borrow.Author.Rules.{rules}
+use Rattle.report_listing.proofs.put_peer_link.Goals as goal
+
+pub returns : goal.returns
+unfolding peer_link_text
+returns c =    let e = c.args.e in
+    let six : length e.peer ≡ 6 = search (rules, c.well_formed) in
+    rw (← c.three.ensures)
+    (at_most event_most (omega (arith, six))
+    (both (both (both (both (both (both c.put_times-next.ensures c.put_colons-next.ensures) (short (c.put_octet-next.ensures.buf_after, c.put_octet-next.ensures.n_in_bounds))) (short (c.put_octet-next-2.ensures.buf_after, c.put_octet-next-2.ensures.n_in_bounds))) (short (c.put_octet-next-3.ensures.buf_after, c.put_octet-next-3.ensures.n_in_bounds))) (short (c.put_size-next.ensures.buf_after, c.put_size-next.ensures.n_in_bounds))) (short (c.put_octet.ensures.buf_after, c.put_octet.ensures.n_in_bounds))))

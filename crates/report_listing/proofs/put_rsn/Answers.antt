@@ -1,0 +1,27 @@
+-- `report_listing::put_rsn` meets its contract.
+-- Assumes nothing.
+use mathlib.Core.Path.{◌≡◌, sym}
+use native.Mathlib.Omega.{arith}
+use lib.ListN.{length, length-take}
+use lib.Seq.{length-take-le}
+use borrow.Author.Tests.{eq-eqb, ne_eqb}
+use Rattle.laws.specs.Choice.{if◌then◌else◌}
+use Rattle.laws.proofs.Arrays.{take_within}
+use Rattle.events.specs.RsnaEvents.{rsn_length}
+use Rattle.texts.proofs.PutLaws.{at_most, nothing}
+use Rattle.report_listing.specs.Listing.{rsn_text}
+use borrow.Author.Rules.{rules}
+use Rattle.report_listing.proofs.put_rsn.Goals as goal
+
+pub returns-then-size-eq0 : goal.returns-then-size-eq0
+unfolding rsn_text if◌then◌else◌
+returns-then-size-eq0 c = rw (eq-eqb _ 0 c.if-size-eq0.true) (at_most 49 (omega arith) (nothing _ _))
+
+pub returns : goal.returns
+unfolding rsn_text if◌then◌else◌
+returns c =    let a = c.args in
+    let l : length a.rsn ≡ rsn_length = search rules in
+    let n = c.least-n.result in
+    let m = c.least-n.ensures in
+    let k = length-take n a.rsn in
+    rw (ne_eqb _ 0 c.if-size-eq0.false, ← take_within a.rsn rsn_length n l a.size m) (at_most 49 (omega (arith, l, m, k)) c.put_bare.ensures)

@@ -1,0 +1,18 @@
+-- `report_listing::put_rsna` meets its contract.
+-- Assumes nothing.
+use mathlib.Core.Path.{◌≡◌}
+use native.Mathlib.Omega.{arith}
+use lib.ListN.{length}
+use Rattle.texts.proofs.PutLaws.{short, at_most, both}
+use Rattle.report_listing.specs.Listing.{rsna_text}
+use Rattle.report_listing.specs.Internal.{event_most}
+use borrow.Author.Rules.{rules}
+use Rattle.report_listing.proofs.put_rsna.Goals as goal
+
+pub returns : goal.returns
+unfolding rsna_text
+returns c =    let e = c.args.e in
+    let six : length e.target ≡ 6 = search (rules, c.well_formed) in
+    let four : length e.authentication ≡ 4 = search (rules, c.well_formed) in
+    at_most event_most (omega (arith, six, four))
+    (both (both (both (both (both (both c.put_times-next.ensures c.put_colons-next.ensures) c.put_colons-next-2.ensures) (short (c.put_octet-next.ensures.buf_after, c.put_octet-next.ensures.n_in_bounds))) c.put_vendor-next.ensures) (short (c.put_octet-next-2.ensures.buf_after, c.put_octet-next-2.ensures.n_in_bounds))) c.put_rsn.ensures)

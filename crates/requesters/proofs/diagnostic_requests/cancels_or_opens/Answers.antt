@@ -1,0 +1,13 @@
+-- `requesters::diagnostic_requests::cancels_or_opens` meets its contract.
+-- Assumes nothing.
+use Rattle.requesters.specs.Internal.{renews_diagnostics}
+use borrow.Author.Rules.{rules}
+use Rattle.requesters.proofs.diagnostic_requests.cancels_or_opens.Goals as goal
+
+pub returns-then-asks_cancel : goal.returns-then-asks_cancel
+unfolding renews_diagnostics
+returns-then-asks_cancel c = rw (← c.asks_cancel.ensures, c.if-asks_cancel.true)
+
+pub returns : goal.returns
+unfolding renews_diagnostics
+returns c = rw (← c.asks_cancel.ensures, c.if-asks_cancel.false, c.is_repeated.ensures)
