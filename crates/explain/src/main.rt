@@ -3,29 +3,29 @@
 // replays.
 #![tactic(auto)]
 
-ghost use Rattle.io.specs.Counts.{IsPrefixLen};
+ghost use Rattle.std.specs.Prelude.{◌≤◌, length};
 
-use libc::{STDIN_FILENO, STDOUT_FILENO};
 use octets::least;
 use replays::put_explain;
+use stdio::{read_full, write_all};
 use traces::LINE;
 
 // Standard input behind the octet that stands first; how many octets that makes.
-fn read_behind(input: &mut [u8]) -> usize
-    ensures { IsPrefixLen result input.new }
+fn read_behind(rt: &HostRuntime, input: &mut [u8]) -> usize
+    ensures { result ≤ length input.new }
 {
     if input.len() == 0 {
         return 0;
     }
-    let n = io::read_full(STDIN_FILENO, &mut input[1..]);
+    let n = read_full(rt, &mut input[1..]);
     least(n, input.len() - 1) + 1
 }
 
-fn main() {
+fn main(rt: HostRuntime) {
     // The record's number, its longest fields, and one octet more than the longest trace has.
     let mut input = [18u8; 266248];
-    let n = read_behind(&mut input);
+    let n = read_behind(&rt, &mut input);
     let mut line = [0u8; LINE];
     let length = put_explain(&mut line, &input[..n]);
-    io::write_all(STDOUT_FILENO, &line[..length]);
+    write_all(&rt, &line[..length]);
 }
