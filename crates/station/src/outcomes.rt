@@ -1,7 +1,7 @@
 // What a call gives: a station and an answer.
 ghost use Rattle.std.specs.Prelude.{◌≡◌, List, map, ℕ, take};
 ghost use Rattle.requesters.specs.Views.{view_requester, view_answer, view_served};
-ghost use Rattle.model.specs.Stations.{result, refused_for, served};
+ghost use Rattle.model.specs.Stations.{result as plain_result, refused_for, served};
 ghost use Rattle.station.specs.Internal.{answer_to, accepted_outcome};
 ghost use Rattle.station.specs.Views.{view, view_outcome, changed_outcome};
 
@@ -11,7 +11,7 @@ use requesters::{Answer, Requester, Served};
 
 // The answer to a call that is refused so, or by number 0: it is not.
 pub(crate) fn answer_of(refusal: Refusal) -> Answer
-    ensures* { λ r. ⌜ view_answer r ≡ answer_to refusal ⌝ }
+    ensures { view_answer result ≡ answer_to refusal }
 {
     if refusal.number != 0 {
         return Answer::Refused(refusal);
@@ -20,7 +20,7 @@ pub(crate) fn answer_of(refusal: Refusal) -> Answer
 }
 
 pub(crate) fn accepted_with(station: Station) -> Outcome
-    ensures* { λ r. ⌜ r ≡ accepted_outcome station ⌝ }
+    ensures { result ≡ accepted_outcome station }
 {
     Outcome {
         station,
@@ -30,7 +30,7 @@ pub(crate) fn accepted_with(station: Station) -> Outcome
 
 // Refused by a cause of the station itself, at place 0.
 pub(crate) fn refused_with(station: Station, cause: u8) -> Outcome
-    ensures* { λ r. ⌜ ((buffer : List ℕ) → view_outcome r buffer ≡ result (view station) (refused_for cause) buffer) ⌝ }
+    ensures { ((buffer : List ℕ) → view_outcome result buffer ≡ plain_result (view station) (refused_for cause) buffer) }
 {
     let refusal = Refusal::new(cause, 0);
     Outcome {
@@ -41,7 +41,7 @@ pub(crate) fn refused_with(station: Station, cause: u8) -> Outcome
 
 // The station with what a call changes of it, and the answer.
 pub(crate) fn changed(g: Station, c: Changed) -> Outcome
-    ensures* { λ r. ⌜ r ≡ changed_outcome g c ⌝ }
+    ensures { result ≡ changed_outcome g c }
 {
     let timer = c.timer;
     let requesters = c.requesters;
@@ -63,7 +63,7 @@ pub(crate) fn changed(g: Station, c: Changed) -> Outcome
 
 // A requester that a call leaves as it is, refused by a cause at place 0.
 pub(crate) fn left_alone(requester: Requester, cause: u8) -> Served
-    ensures* { λ r. ⌜ ((buffer : List ℕ) → view_served r buffer ≡ served (view_requester requester) (refused_for cause) buffer) ⌝ }
+    ensures { ((buffer : List ℕ) → view_served result buffer ≡ served (view_requester requester) (refused_for cause) buffer) }
 {
     let refusal = Refusal::new(cause, 0);
     Served {

@@ -1,0 +1,13 @@
+-- `station::Station::tick` meets its contract.
+-- Assumes nothing.
+use mathlib.Core.Path.{ap, ◌∙◌}
+use mathlib.Core.List.{[]}
+use Rattle.model.specs.Model.{Station, accepted}
+use Rattle.model.specs.Stations.{result, act, reading_of, step}
+use Rattle.station.proofs.StationLaws.{accepted-view}
+use borrow.Author.Rules.{rules}
+use Rattle.station.proofs.Station.tick.Goals as goal
+
+pub returns : goal.returns
+unfolding step act reading_of
+returns c = accepted-view _ _ c.accepted_with.ensures ∙ ap (λ (g : Station). result g accepted []) c.ticked.ensures.result_value

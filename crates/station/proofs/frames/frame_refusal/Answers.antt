@@ -1,0 +1,18 @@
+-- `station::frames::frame_refusal` meets its contract.
+-- Assumes nothing.
+use Rattle.laws.specs.Choice.{if◌then◌else◌}
+use Rattle.station.specs.Internal.{frame_refusal}
+use borrow.Author.Rules.{rules}
+use Rattle.station.proofs.frames.frame_refusal.Goals as goal
+
+pub returns-then-is_group : goal.returns-then-is_group
+unfolding frame_refusal if◌then◌else◌
+returns-then-is_group c = rw (← c.is_group.ensures, c.if-is_group.true) c.new.ensures
+
+pub returns-then-not-found : goal.returns-then-not-found
+unfolding frame_refusal if◌then◌else◌
+returns-then-not-found c = rw (← c.is_group.ensures, c.if-is_group.false, c.if-not-found.true-raw) c.new-then-not-found.ensures
+
+pub returns : goal.returns
+unfolding frame_refusal if◌then◌else◌
+returns c = rw (← c.is_group.ensures, c.if-is_group.false, c.if-not-found.false-raw)

@@ -1,0 +1,16 @@
+-- `station::reports::serve_report` meets its contract.
+-- Assumes nothing.
+use Rattle.laws.specs.Choice.{if◌then◌else◌}
+use Rattle.station.specs.Internal.{serve_if}
+use borrow.Author.Rules.{rules}
+use Rattle.report_calls.proofs.give_report.Reads as give-report-reads
+use Rattle.station.proofs.outcomes.left_alone.Reads as left-alone-reads
+use Rattle.station.proofs.reports.serve_report.Goals as goal
+
+pub returns-then-not-found : goal.returns-then-not-found
+unfolding serve_if if◌then◌else◌
+returns-then-not-found c = rw c.if-not-found.true-raw (c.left_alone.ensures _)
+
+pub returns : goal.returns
+unfolding serve_if if◌then◌else◌
+returns c = rw c.if-not-found.false-raw c.give_report.ensures

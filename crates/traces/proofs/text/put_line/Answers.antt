@@ -1,0 +1,10 @@
+-- `traces::text::put_line` meets its contract.
+-- Assumes nothing.
+use Rattle.texts.proofs.PutLaws.{one, short, both}
+use Rattle.traces.specs.Lines.{number_line}
+use borrow.Author.Rules.{rules}
+use Rattle.traces.proofs.text.put_line.Goals as goal
+
+pub returns : goal.returns
+unfolding number_line
+returns c = both (short (c.put_size-next.ensures.buf_after, c.put_size-next.ensures.n_in_bounds)) (one c.put.ensures)
