@@ -74,8 +74,9 @@ pub extern "C" fn dultxibe_frame(
     ensures { left_with g.new result [] ≡ numbered (step elapsed_clock standard (view g.old) (frame reading destination.now source.now o.now)) }
 {
     let after = frame(*g, reading, destination, source, o);
+    let requesters = after.requesters;
     g.timer = after.timer;
-    g.requesters = after.requesters;
+    g.requesters = requesters;
     after.reply
 }
 
@@ -91,8 +92,9 @@ pub extern "C" fn dultxibe_report(
     ensures { left_with g.new result buf.new ≡ numbered (step elapsed_clock standard (view g.old) (report reading requester.now (kind_of kind) buf.old)) }
 {
     let after = report(*g, reading, requester, kind, buf);
+    let requesters = after.requesters;
     g.timer = after.timer;
-    g.requesters = after.requesters;
+    g.requesters = requesters;
     after.reply
 }
 

@@ -11,61 +11,61 @@ ghost use Rattle.station.specs.Views.{view};
 ghost use Rattle.replays.specs.Replay.{report_at, station_after, replayed, replay_trace};
 
 use explanations::Explanation;
-use libc::{STDIN_FILENO, STDOUT_FILENO};
 use octets::{least, octet};
 use replays::{LONGEST, Replayed, explain_at, list_at, outcome_at, report_at};
 use report_listing::LISTING;
 use request_writer::{Written, write_request};
 use requesters::Answer;
 use station::{Outcome, Station};
+use stdio::{read_full, write_all};
 use traces::{
     BUFFER, BUFFER_LINE, LINE, WriterCall, elements_at, put_answer, put_buffer, put_explanation,
     put_trace_refusal, record_end, writer_call_at,
 };
 
-fn print_answer(answer: Answer) {
+fn print_answer(rt: &HostRuntime, answer: Answer) {
     let mut line = [0u8; LINE];
     let n = put_answer(&mut line, answer);
-    io::write_all(STDOUT_FILENO, &line[..n]);
+    write_all(rt, &line[..n]);
 }
 
 // The first n octets of a lent buffer.
-fn print_buffer(buf: &[u8; BUFFER], n: usize) {
+fn print_buffer(rt: &HostRuntime, buf: &[u8; BUFFER], n: usize) {
     let mut line = [0u8; BUFFER_LINE];
     let length = put_buffer(&mut line, buf, n);
-    io::write_all(STDOUT_FILENO, &line[..length]);
+    write_all(rt, &line[..length]);
 }
 
-fn print_explanation(e: Explanation) {
+fn print_explanation(rt: &HostRuntime, e: Explanation) {
     let mut line = [0u8; LINE];
     let n = put_explanation(&mut line, e);
-    io::write_all(STDOUT_FILENO, &line[..n]);
+    write_all(rt, &line[..n]);
 }
 
-fn print_trace_refusal(place: usize) {
+fn print_trace_refusal(rt: &HostRuntime, place: usize) {
     let mut line = [0u8; LINE];
     let n = put_trace_refusal(&mut line, place);
-    io::write_all(STDOUT_FILENO, &line[..n]);
+    write_all(rt, &line[..n]);
 }
 
 // The answer of an outcome printed, and its station.
-fn after(outcome: Outcome) -> Station
+fn after(rt: &HostRuntime, outcome: Outcome) -> Station
     ensures { result ≡ outcome.station }
 {
     let answer = outcome.answer;
-    print_answer(answer);
+    print_answer(rt, answer);
     outcome.station
 }
 
 // A report call, and its lent buffer.
-fn report(g: Station, s: &[u8], at: usize) -> Station
+fn report(rt: &HostRuntime, g: Station, s: &[u8], at: usize) -> Station
     ensures { view result ≡ (step elapsed_clock standard (view g) (report_at s.now at)).station }
 {
     let r = report_at(g, s, at);
     let outcome = r.outcome;
     let buf = r.buf;
-    let station = after(outcome);
-    print_buffer(&buf, r.length);
+    let station = after(rt, outcome);
+    print_buffer(rt, &buf, r.length);
     station
 }
 
@@ -77,53 +77,53 @@ fn answer_of(w: Written) -> Answer {
     Answer::Length(w.length)
 }
 
-fn write_into(s: &[u8], c: WriterCall, buf: &mut [u8]) {
+fn write_into(rt: &HostRuntime, s: &[u8], c: WriterCall, buf: &mut [u8]) {
     let kind = c.kind;
     let e = elements_at(s, kind, c.count, c.elements);
     let elements = e.elements;
     let w = write_request(kind, c.dialog, elements, c.count as usize, buf);
-    print_answer(answer_of(w));
+    print_answer(rt, answer_of(w));
 }
 
-fn write(s: &[u8], at: usize) {
+fn write(rt: &HostRuntime, s: &[u8], at: usize) {
     let c = writer_call_at(s, at);
     let fill = c.fill;
     let n = least(c.length as usize, BUFFER);
     let mut buf = [fill; BUFFER];
-    write_into(s, c, &mut buf[..n]);
-    print_buffer(&buf, n);
+    write_into(rt, s, c, &mut buf[..n]);
+    print_buffer(rt, &buf, n);
 }
 
-fn read(s: &[u8], at: usize) {
+fn read(rt: &HostRuntime, s: &[u8], at: usize) {
     let mut text = [0u8; LISTING];
     let n = list_at(s, at, &mut text);
-    io::write_all(STDOUT_FILENO, &text[..n]);
+    write_all(rt, &text[..n]);
 }
 
 // The call of the record at a position; the station after it.
-fn call(g: Station, s: &[u8], at: usize) -> Station
+fn call(rt: &HostRuntime, g: Station, s: &[u8], at: usize) -> Station
     ensures { view result ≡ station_after s.now at (view g) }
 {
     match octet(s, at) {
-        4 => report(g, s, at),
+        4 => report(rt, g, s, at),
         16 => {
-            write(s, at);
+            write(rt, s, at);
             g
         }
         17 => {
-            read(s, at);
+            read(rt, s, at);
             g
         }
         18 => {
-            print_explanation(explain_at(g, s, at));
+            print_explanation(rt, explain_at(g, s, at));
             g
         }
-        _ => after(outcome_at(g, s, at)),
+        _ => after(rt, outcome_at(g, s, at)),
     }
 }
 
 // The records from the front, while they are whole.
-fn replay(s: &[u8]) -> Replayed
+fn replay(rt: &HostRuntime, s: &[u8]) -> Replayed
     ensures { replayed result.reached (view result.station) ≡ replay_trace s.now }
 {
     let nobody = Station::setup(&[], &[]);
@@ -137,7 +137,7 @@ fn replay(s: &[u8]) -> Replayed
                 station: g,
             };
         }
-        g = call(g, s, at);
+        g = call(rt, g, s, at);
         at = end;
     }
     Replayed {
@@ -147,17 +147,17 @@ fn replay(s: &[u8]) -> Replayed
 }
 
 // The records of an input; what is left of it is refused.
-fn run(input: &[u8]) {
+fn run(rt: &HostRuntime, input: &[u8]) {
     let end = least(input.len(), LONGEST);
-    let r = replay(&input[..end]);
+    let r = replay(rt, &input[..end]);
     if r.reached < input.len() {
-        print_trace_refusal(r.reached);
+        print_trace_refusal(rt, r.reached);
     }
 }
 
-fn main() {
+fn main(rt: HostRuntime) {
     // One octet more than the longest trace has, so that a longer input is seen to be longer.
     let mut input = [0u8; 262145];
-    let n = io::read_full(STDIN_FILENO, &mut input);
-    run(&input[..n]);
+    let n = read_full(&rt, &mut input);
+    run(&rt, &input[..n]);
 }

@@ -1,0 +1,29 @@
+-- `firmware_explain::explanation_of` meets its contract.
+-- Assumes nothing.
+use Rattle.firmware_explain.specs.Numbers.{numbered_explanation}
+use borrow.Author.Rules.{rules}
+use Rattle.firmware_explain.proofs.explanation_of.Goals as goal
+
+pub returns-in-Refused : goal.returns-in-Refused
+unfolding numbered_explanation
+returns-in-Refused c = rw c.in-Refused.is
+
+pub returns-in-LoggedAfter : goal.returns-in-LoggedAfter
+unfolding numbered_explanation
+returns-in-LoggedAfter c = rw c.in-LoggedAfter.is c.plain_reason.ensures
+
+pub returns-in-WrongType : goal.returns-in-WrongType
+unfolding numbered_explanation
+returns-in-WrongType c = rw c.in-WrongType.is c.plain_reason-in-WrongType.ensures
+
+pub returns-in-Unmet : goal.returns-in-Unmet
+unfolding numbered_explanation
+returns-in-Unmet c = rw c.in-Unmet.is
+
+pub returns-in-LimitReached : goal.returns-in-LimitReached
+unfolding numbered_explanation
+returns-in-LimitReached c = rw c.in-LimitReached.is c.plain_reason-in-LimitReached.ensures
+
+pub returns-in-Reported : goal.returns-in-Reported
+unfolding numbered_explanation
+returns-in-Reported c = rw c.in-Reported.is c.plain_reason-in-Reported.ensures
