@@ -15,7 +15,6 @@ use Rattle.units.specs.Time.{elapsed_since}
 use Rattle.octets.specs.declared.numbers.Kind.{Kind}
 use Rattle.octets.specs.declared.numbers.Kind.TheVariants.{Event, Diagnostic}
 use Rattle.octets.specs.Numbers.{successful, incapable}
-use Rattle.octets.specs.Elements.{Subelement, subelements}
 use Rattle.requests.specs.declared.Element.{Element}
 use Rattle.events.specs.declared.Entry.{Entry}
 use Rattle.events.specs.Loggings.{Logging, entry_for}
@@ -30,7 +29,7 @@ use Rattle.events.specs.Log.{past_log}
 use Rattle.model.specs.Events.{next_event_place, report_front, treat_front, next_from, next_event, without, event_treatment}
 use Rattle.model.specs.Diagnostics.{diagnostic_treatment, diagnostic_report, next_diagnostic}
 use Rattle.report_reader.specs.Contents.{Content, status_only, logged_event, with_subelements, Valid, content_octets}
-use Rattle.model.specs.Sound.{logging_call, LoggedBy}
+use Rattle.model.specs.Sound.{LoggedBy}
 use Rattle.model.proofs.NextEvent.{next-event}
 use Rattle.model.proofs.CallLaws.{log-good}
 use Rattle.demands.specs.StationRoundTrip.{WellFormed, Truthful}

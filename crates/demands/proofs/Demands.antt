@@ -2,25 +2,22 @@
 -- Assumes nothing.
 use Prim.Native.Nat.{ℕ}
 use mathlib.Core.Path.{◌≡◌, refl, sym, ap, ap₂, ◌∙◌}
-use mathlib.Core.List.{List, [], ◌∷◌, ◌++◌, map, flatten}
-use mathlib.Core.Option.{Option, none, some}
+use mathlib.Core.List.{List, [], ◌∷◌, map, flatten}
 use lib.ListN.{length-map}
 use Rattle.laws.specs.Members.{Among, first, later, All, nil, also}
 use Rattle.laws.proofs.Members.{among_none}
 use Rattle.octets.specs.declared.numbers.Kind.{Kind}
 use Rattle.octets.specs.declared.numbers.Kind.TheVariants.{Event, Diagnostic}
-use Rattle.octets.specs.declared.refusals.Refusal.{Refusal}
 use Rattle.events.specs.Loggings.{Logging, EventLengths}
 use Rattle.model.specs.Clocks.{elapsed_clock}
-use Rattle.model.specs.Model.{standard, Address, Listed, Call, clock, frame, report, roam, change, Result, of_length, turned_away}
+use Rattle.model.specs.Model.{standard, Address, Listed, Call, frame, report, roam, change, Result}
 use Rattle.model.specs.Model.{Station as ModelStation}
-use Rattle.model.specs.Stations.{setup, timed, reading_of, step}
-use Rattle.model.specs.Refusals.{lent_buffer}
+use Rattle.model.specs.Stations.{setup, timed, step}
 use Rattle.model.specs.Runs.{run, HandedIn, Always, sender, Reply, reply, to_sender}
 use Rattle.model.specs.Independence.{answers, BelowTop}
 use Rattle.model.specs.Agreement.{replies}
 use Rattle.model.specs.Sound.{logging_call}
-use Rattle.model.specs.NewestFirst.{events_of, events_given}
+use Rattle.model.specs.NewestFirst.{events_given}
 use Rattle.model.specs.Waiting.{frames_given, OverWithin}
 use Rattle.model.proofs.Refusals.{refused-call, refused-setup}
 use Rattle.model.proofs.CallLaws.{step-timer}
@@ -33,9 +30,9 @@ use Rattle.model.proofs.Agreement.{old_and_new_agree}
 use Rattle.station.specs.declared.Station.{Station}
 use Rattle.station.specs.declared.Outcome.{Outcome}
 use Rattle.station.specs.Views.{view, view_outcome}
-use Rattle.demands.specs.StationRoundTrip.{WellFormed, RoundTrip}
+use Rattle.demands.specs.StationRoundTrip.{WellFormed}
 use Rattle.demands.specs.Chains.{Made, Allowed, Chain, none_made, made, SetUp}
-use Rattle.demands.specs.Demands.{CodeLeftAlone, Total, CodeLeftUnnamed, TotalSetup, call_of, Exact, NeverShowsWrongTime, answered, replied, ShortOfTop, IndependentRequesters, IndependentShortChain, AnswersAsBefore, TimeIsTrue, given_to, GivesNewestFirst, frames_made, CodeOverWithin, RequestsAreOver, MadeInOrder, OrderLeavesNoTrace}
+use Rattle.demands.specs.Demands.{Total, TotalSetup, call_of, Exact, NeverShowsWrongTime, answered, replied, ShortOfTop, IndependentRequesters, IndependentShortChain, AnswersAsBefore, TimeIsTrue, given_to, GivesNewestFirst, frames_made, CodeOverWithin, RequestsAreOver, MadeInOrder, OrderLeavesNoTrace}
 use Rattle.demands.proofs.StationRoundTrip.{station_round_trip, never_shown}
 
 -- ---- what an allowed call gives is what the model gives

@@ -1,16 +1,11 @@
 -- A frame that is filled from a request tells what the request gives, for any kind of request.
 -- Assumes nothing.
-use Prim.Native.Nat.{ℕ, zero, suc, ◌+◌, ◌-◌, ◌≤◌}
-use mathlib.Core.Path.{◌≡◌, refl, sym, ap, ◌∙◌}
-use mathlib.Core.Bool.{Bool, true, false}
+use Prim.Native.Nat.{ℕ, zero, suc, ◌-◌}
+use mathlib.Core.Path.{◌≡◌, refl, ap, ◌∙◌}
 use mathlib.Core.List.{List, [], ◌∷◌, ◌++◌}
 use mathlib.Core.Option.{Option, none, some}
-use native.Mathlib.Omega.{arith}
-use lib.ListN.{length, length-append}
-use lib.Dec.{leb}
-use borrow.Author.Tests.{leb-true}
+use lib.ListN.{length}
 use Rattle.laws.specs.Members.{All, nil, also}
-use Rattle.laws.specs.Choice.{if◌then◌else◌}
 use Rattle.laws.specs.Buffers.{pieces}
 use Rattle.laws.proofs.Pieces.{pieces-from}
 use Rattle.laws.proofs.Choice.{either}

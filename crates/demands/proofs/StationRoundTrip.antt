@@ -1,31 +1,28 @@
 -- What a report call writes is read back to what was logged and set up.
 -- Assumes nothing.
-use Prim.Native.Nat.{ℕ, suc, ◌+◌, ◌-◌, ◌≤◌, min}
+use Prim.Native.Nat.{ℕ, ◌-◌, ◌≤◌}
 use mathlib.Core.Path.{◌≡◌, refl, sym, ap, ◌∙◌}
-use mathlib.Core.Bool.{Bool, true, false}
-use mathlib.Core.List.{List, [], ◌∷◌, ◌++◌}
+use mathlib.Core.Bool.{true}
+use mathlib.Core.List.{List, [], ◌∷◌}
 use mathlib.Core.Option.{Option, none, some}
 use native.Mathlib.Omega.{arith}
 use lib.ListN.{length, take, drop}
 use lib.Seq.{take_at}
 use borrow.Author.Tests.{ltb-false}
-use Rattle.laws.specs.Choice.{if◌then◌else◌}
-use Rattle.laws.specs.Buffers.{onto, pieces}
+use Rattle.laws.specs.Buffers.{onto}
 use Rattle.laws.proofs.Choice.{either, never}
 use Rattle.laws.proofs.Members.{all_weaken}
 use Rattle.units.specs.Time.{elapsed_since}
 use Rattle.octets.specs.declared.numbers.Kind.{Kind}
 use Rattle.octets.specs.declared.numbers.Kind.TheVariants.{Event, Diagnostic}
 use Rattle.octets.specs.Numbers.{category, report_action, longest_frame, report_buffer}
-use Rattle.octets.specs.Addresses.{is_group}
-use Rattle.events.specs.declared.Entry.{Entry}
 use Rattle.events.specs.Times.{is_form}
 use Rattle.identities.specs.Identity.{good_identity}
 use Rattle.model.specs.declared.Diagnostic.{Diagnostic as DiagnosticElement}
 use Rattle.model.specs.Clocks.{elapsed_clock}
-use Rattle.model.specs.Model.{Address, EventRequest, DiagnosticRequest, Requester, Station, Call, report, Answer, nothing, of_length, turned_away}
-use Rattle.model.specs.Requesters.{find, form_in, form_of}
-use Rattle.model.specs.Fill.{Piece, before, fill, next_frame}
+use Rattle.model.specs.Model.{Address, EventRequest, DiagnosticRequest, Requester, Station, Call, of_length}
+use Rattle.model.specs.Requesters.{find, form_in}
+use Rattle.model.specs.Fill.{Piece, fill, next_frame}
 use Rattle.model.specs.Events.{next_event}
 use Rattle.model.specs.Diagnostics.{next_diagnostic}
 use Rattle.model.specs.Stations.{Served, room, setup, tick, serve_found, serve_listed, give_events, give_diagnostics, if_outstanding, octets_of, give_kind, give_report, report_call, act, reading_of, step}

@@ -2,7 +2,6 @@
 -- Assumes nothing.
 use Rattle.std.specs.Prelude.{ℕ, List, map, Bool, true, false, not, eqb}
 use Rattle.laws.specs.Choice.{if◌then◌else◌}
-use Rattle.octets.specs.Numbers.{kind_of}
 use Rattle.octets.specs.declared.numbers.Kind.{Kind}
 use Rattle.octets.specs.declared.numbers.Kind.TheVariants.{Event, Diagnostic}
 use Rattle.model.specs.Model.{Station, Answer, accepted, nothing, of_length, turned_away, Result}

@@ -1,19 +1,19 @@
 -- A good identity is a list of subelements.
 -- Assumes nothing.
-use Prim.Native.Nat.{ℕ, suc, ◌+◌, ◌≤◌}
+use Prim.Native.Nat.{ℕ, suc, ◌+◌}
 use mathlib.Core.Path.{◌≡◌, refl, sym, ap, ◌∙◌}
-use mathlib.Core.Bool.{Bool, true, false, not}
+use mathlib.Core.Bool.{Bool, true, false}
 use mathlib.Core.List.{List, [], ◌∷◌, ◌++◌}
-use lib.ListN.{length, get_or, take, drop, length-take, length-drop, take-append-drop, drop_of_length-le}
+use lib.ListN.{length, get_or, take, drop, length-drop, take-append-drop, drop_of_length-le}
 use lib.Seq.{drop-cons, drop-drop, length-take-le}
-use lib.Dec.{ltb, eqb}
+use lib.Dec.{ltb}
 use borrow.Author.Tests.{eqb-true, eqb-false}
 use native.Mathlib.Omega.{arith}
 use Rattle.laws.specs.Choice.{if◌then◌else◌}
 use Rattle.laws.specs.Buffers.{pieces}
 use Rattle.laws.proofs.Pieces.{pieces-from}
 use Rattle.laws.proofs.Choice.{either, never}
-use Rattle.octets.specs.Elements.{framed, piece_end, Subelement, subelements}
+use Rattle.octets.specs.Elements.{framed, Subelement, subelements}
 use Rattle.octets.proofs.ElementLaws.{Ends, piece_ends}
 use Rattle.identities.specs.declared.Row.{Row}
 use Rattle.identities.specs.declared.Walk.{Walk}

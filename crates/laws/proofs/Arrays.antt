@@ -10,7 +10,7 @@ use native.Mathlib.Nat.{add-zero, le_of_suc-le-suc, not-suc-le-zero}
 use native.Mathlib.Omega.{arith}
 use lib.Dec.{leb}
 use lib.ListN.{length, get_or, get_elem?, take, drop, set, length-take, length-map, length-set, drop_of_length-le}
-use lib.Seq.{drop-cons, take-suc, take-suc-set, take_all, take_at, take-set-lt, drop-set-lt, set_at, get_or_at, get_or-set_same, get_or-take, append_snoc, get_or-append-add, get_or-drop}
+use lib.Seq.{drop-cons, take-suc, take_all, take_at, take-set-lt, drop-set-lt, set_at, get_or_at, get_or-set_same, get_or-take, append_snoc, get_or-append-add, get_or-drop}
 use borrow.Author.Tests.{leb-true, leb-false}
 
 -- ---- structs: what owning an array of them tells of its length

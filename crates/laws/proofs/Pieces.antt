@@ -7,7 +7,7 @@ use lib.ListN.{length, get_or, drop, length-append, drop_of_length-le}
 use lib.Seq.{drop-cons}
 use native.Mathlib.Numerals.{add-one}
 use native.Mathlib.Omega.{arith}
-use Rattle.laws.specs.Members.{All, nil, also}
+use Rattle.laws.specs.Members.{All, also}
 use Rattle.laws.specs.Buffers.{pieces}
 use Rattle.laws.proofs.Parts.{stands-behind}
 

@@ -15,7 +15,7 @@ use borrow.Author.Tests.{eqb-true, eq-eqb, ne_eqb, ltb-true, ltb-false, le-ltb}
 use Rattle.laws.specs.Choice.{if◌then◌else◌}
 use Rattle.laws.proofs.Choice.{either, never}
 use Rattle.laws.specs.Buffers.{onto}
-use Rattle.laws.specs.Members.{All, nil, also}
+use Rattle.laws.specs.Members.{All, also}
 use Rattle.octets.specs.declared.numbers.Kind.{Kind}
 use Rattle.octets.specs.declared.numbers.Kind.TheVariants.{Event, Diagnostic}
 use Rattle.octets.specs.Addresses.{same, is_group}
@@ -43,7 +43,7 @@ use Rattle.model.specs.Events.{event_treatment, open_events, take_events, eligib
 use Rattle.model.specs.Stations.{refused_for, tick_requester, Served, served, take_kind, take_request, room, give_events, give_diagnostics, if_outstanding, octets_of, give_kind, give_report, reading_of, step}
 use Rattle.model.specs.Runs.{run, sender, Reply, reply, to_sender}
 use Rattle.model.specs.Independence.{quiet_for, quiet}
-use Rattle.model.specs.NewestFirst.{latest_matches, or_bare, treated_reports, request_reports, behind_header, events_in, events_of, events_given, OpensEvents, LetsBe, GivenInOrder, NewestFirst}
+use Rattle.model.specs.NewestFirst.{latest_matches, or_bare, treated_reports, request_reports, behind_header, events_in, events_of, events_given, LetsBe, GivenInOrder, NewestFirst}
 use Rattle.model.proofs.Seen.{Seen, seen, tick_seen, served_seen, act_seen, step_seen, seen_step, quiet_step, served_reply, seen_reply, step_reply, seen-reply, kind_keeps, give_keeps}
 
 -- ---- the places that one element gives

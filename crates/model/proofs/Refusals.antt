@@ -1,8 +1,8 @@
 -- Demand 1: a refused call leaves the station as a bare clock reading would, and writes no octet of a lent buffer.
 -- Assumes nothing.
-use Prim.Native.Nat.{ℕ, ◌<◌}
+use Prim.Native.Nat.{ℕ}
 use mathlib.Core.Path.{◌≡◌, refl, sym, ◌∙◌, ap}
-use mathlib.Core.Bool.{Bool, true, false, not}
+use mathlib.Core.Bool.{Bool, true, false}
 use mathlib.Core.List.{List, [], ◌∷◌}
 use mathlib.Core.Option.{Option, none, some, some-injective}
 use lib.Dec.{eqb}
@@ -17,15 +17,14 @@ use Rattle.octets.specs.declared.numbers.Kind.TheVariants.{Event, Diagnostic}
 use Rattle.octets.specs.declared.refusals.Refusal.{Refusal}
 use Rattle.octets.specs.Addresses.{same}
 use Rattle.octets.specs.Refusals.{no_element, group_destination, unknown_requester, short_buffer, bad_time, bad_requester_list, bad_identity, bad_report_body}
-use Rattle.requests.specs.declared.Request.{Request}
 use Rattle.requests.specs.Requests.{request_causes, read_request}
 use Rattle.requests.proofs.Causes.{request_listed}
 use Rattle.events.specs.declared.Entry.{Entry}
 use Rattle.events.specs.Loggings.{LoggedEvent}
-use Rattle.model.specs.Model.{Capacities, Address, Listed, Requester, Station, Call, clock, logging, frame, report, roam, change, Answer, accepted, nothing, of_length, turned_away, Result}
+use Rattle.model.specs.Model.{Capacities, Address, Listed, Requester, Station, Call, clock, logging, frame, report, roam, change, Answer, turned_away, Result}
 use Rattle.model.specs.Requesters.{find, put}
 use Rattle.model.specs.Stations.{refused_for, nobody, setup, tick, log_cause, log_call, Served, with_requester, serve_found, serve_listed, take_request, request_call, frame_call, give_events, give_diagnostics, if_outstanding, octets_of, give_kind, give_report, report_call, rename_with, rename, act, reading_of, step}
-use Rattle.model.specs.Refusals.{lent_buffer, causes_of, setup_causes, RefusedBy, LeftAlone, RefusedCall, LeftUnnamed, RefusedSetup}
+use Rattle.model.specs.Refusals.{lent_buffer, causes_of, setup_causes, RefusedBy, RefusedCall, RefusedSetup}
 
 -- ---- what a refusal leaves of a state S (a station, or a requester) and of a lent buffer
 

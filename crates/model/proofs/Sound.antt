@@ -5,7 +5,6 @@ use mathlib.Core.Path.{◌≡◌, refl, sym, ap, ◌∙◌}
 use mathlib.Core.Bool.{Bool, true, false, not, ◌||◌}
 use mathlib.Core.List.{List, [], ◌∷◌, ◌++◌, map, map-append}
 use mathlib.Core.Option.{Option, none, some, some-injective}
-use native.Mathlib.Omega.{arith}
 use lib.ListN.{length, drop}
 use lib.Dec.{ltb, eqb}
 use borrow.Author.Tests.{not-false, eqb-true}
@@ -18,7 +17,6 @@ use Rattle.octets.specs.Addresses.{same, is_group}
 use Rattle.events.specs.Times.{is_form}
 use Rattle.events.specs.Log.{pushed}
 use Rattle.events.specs.Loggings.{LoggedEvent, Logging, entry_for}
-use Rattle.identities.specs.Identity.{good_identity}
 use Rattle.model.specs.Clocks.{Timer, Clock}
 use Rattle.model.specs.Model.{Capacities, Address, Listed, listed_address, listed_form, Requester, Station, Call, clock, logging, frame, report, roam, change, Result}
 use Rattle.model.specs.Requesters.{repeated, bad_listed, bad_list, new_requester, find, put}

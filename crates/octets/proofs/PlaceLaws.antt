@@ -9,7 +9,7 @@ use native.Mathlib.Nat.{add-zero}
 use native.Mathlib.Omega.{arith}
 use lib.Dec.{leb}
 use lib.ListN.{length, get_or, take, drop, set, length-take, length-drop, drop_of_length-le, get_or-eq_default}
-use lib.Seq.{drop-cons, take-length, get_or-take, get_or-drop}
+use lib.Seq.{drop-cons, get_or-take, get_or-drop}
 use borrow.Author.Tests.{leb-true, leb-false}
 use Rattle.laws.specs.Buffers.{onto}
 use Rattle.laws.proofs.Arrays.{fill_next}

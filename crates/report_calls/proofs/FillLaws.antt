@@ -16,7 +16,6 @@ use borrow.Rule.Slice.PartMut.{put_mid}
 use Rattle.laws.specs.Choice.{if◌then◌else◌}
 use Rattle.laws.specs.Buffers.{onto, WrittenBuffer, wrote, put_front}
 use Rattle.laws.proofs.Buffers.{length-onto, lent_length, lent, put_front-fits, put_front-short}
-use Rattle.laws.proofs.Choice.{either}
 use Rattle.octets.specs.Numbers.{category}
 use Rattle.model.proofs.FillLaws.{fill-fits}
 use Rattle.model.specs.Fill.{Piece, nothing_more, before, fill_with, fill, next_frame}

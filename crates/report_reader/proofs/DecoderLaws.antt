@@ -8,9 +8,8 @@ use native.Mathlib.Nat.{zero-add, add-zero}
 use native.Mathlib.Omega.{arith}
 use lib.Dec.{leb, eqb}
 use lib.ListN.{length, get_or, take, drop, length-append, length-drop, drop_of_length-le}
-use lib.Seq.{take_all, get_or-drop}
+use lib.Seq.{take_all}
 use borrow.Author.Tests.{leb-true, leb-false}
-use Rattle.laws.specs.Choice.{if◌then◌else◌}
 use Rattle.laws.proofs.Choice.{either}
 use Rattle.laws.specs.Buffers.{WrittenBuffer, wrote, put_at}
 use Rattle.laws.proofs.Buffers.{put_at-fits}

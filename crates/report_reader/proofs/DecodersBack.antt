@@ -1,10 +1,9 @@
 -- What is decoded of an event's octets is what was logged, for each kind; and its report has the length of its type.
 -- Assumes nothing.
-use Prim.Native.Nat.{ℕ, ◌+◌, ◌≤◌, ◌<◌}
-use mathlib.Core.Path.{◌≡◌, refl, sym, ap, ◌∙◌}
+use Prim.Native.Nat.{ℕ, ◌+◌, ◌<◌}
+use mathlib.Core.Path.{◌≡◌, refl, ap, ◌∙◌}
 use mathlib.Core.Bool.{Bool, true, false, ◌||◌}
 use mathlib.Core.List.{List, ◌++◌, append_assoc}
-use native.Mathlib.Nat.{add-zero}
 use native.Mathlib.Omega.{arith}
 use lib.Dec.{eqb, ltb}
 use lib.ListN.{length, get_or, drop, get_or-append}
@@ -18,15 +17,15 @@ use Rattle.octets.specs.Times.{time_at}
 use Rattle.octets.proofs.PlaceLaws.{octets_stand}
 use Rattle.subelements.specs.Subelements.{tables}
 use Rattle.events.specs.declared.times.Times.{Times}
-use Rattle.events.specs.Times.{draft, draft_length, published_length, time_length, published_fields, by_form}
+use Rattle.events.specs.Times.{draft, time_length, published_fields, by_form}
 use Rattle.events.specs.Transitions.{transition_length, transition_body}
 use Rattle.events.specs.RsnaEvents.{method_offset, rsn_length, rsna_length, rsna_body}
 use Rattle.events.specs.PeerLinks.{peer_link_length, peer_link_body}
 use Rattle.events.specs.Log.{time_of}
-use Rattle.events.specs.Loggings.{LoggedEvent, transition, rsna, peer_link, event_type, event_times, event_body, good_rsn_element, entry_with, entry_of, TimesLengths, EventLengths}
+use Rattle.events.specs.Loggings.{LoggedEvent, transition, rsna, peer_link, event_type, event_body, good_rsn_element, entry_with, entry_of, TimesLengths, EventLengths}
 use Rattle.events.proofs.LoggingLaws.{time-length}
 use Rattle.events.proofs.TransitionLaws.{body_length, source_back, target_back, took_back, reason_back, result_back, signals_back}
-use Rattle.events.proofs.RsnaLaws.{method_some, rsna-whole, method-first, rsna-target_back, authentication_back, method_back, rsna-result_back, rsn_back}
+use Rattle.events.proofs.RsnaLaws.{rsna-whole, method-first, rsna-target_back, authentication_back, method_back, rsna-result_back, rsn_back}
 use Rattle.events.proofs.PeerLinkLaws.{peer-link-length, peer_back, class_back, channel_back, power_back, connection_back, peer_status_back}
 use Rattle.report_reader.specs.Decoders.{draft_times, published_times, times_in, transition_in, rsna_in, peer_link_in, decoded}
 use Rattle.report_reader.specs.Reader.{report_length, is_rsna_length, is_event_length}

@@ -1,6 +1,6 @@
 -- What a reader told one form makes of the other: no length is one of both forms, so every event is refused; and all else is read the same.
 -- Assumes nothing.
-use Prim.Native.Nat.{ℕ, zero, suc, ◌+◌, ◌-◌, ◌*◌, ◌≤◌, ◌<◌}
+use Prim.Native.Nat.{ℕ, suc, ◌+◌, ◌-◌, ◌*◌, ◌≤◌}
 use mathlib.Core.Path.{◌≡◌, refl, sym, ap, fun_ext, ◌∙◌}
 use mathlib.Core.Bool.{Bool, true, false, ◌||◌}
 use mathlib.Core.List.{List, [], ◌∷◌, ◌++◌, map, map-append, append_assoc, append-nil}
@@ -17,7 +17,6 @@ use Rattle.laws.proofs.Parts.{stands-behind}
 use Rattle.laws.proofs.Walk.{Rest, start, last, again, done, go_on, stop_refused, stop_end}
 use Rattle.octets.specs.declared.numbers.Kind.{Kind}
 use Rattle.octets.specs.declared.numbers.Kind.TheVariants.{Event, Diagnostic}
-use Rattle.octets.specs.Numbers.{longest_frame}
 use Rattle.octets.specs.Refusals.{refused, no_refusal, bad_report_body}
 use Rattle.subelements.specs.Subelements.{tables, length_of, walk}
 use Rattle.units.specs.Time.{age, tus_of}
@@ -26,7 +25,7 @@ use Rattle.events.specs.Log.{time_of}
 use Rattle.events.specs.RsnaEvents.{method_length, rsn_length, rsna_length}
 use Rattle.events.specs.Transitions.{transition_length}
 use Rattle.events.specs.PeerLinks.{peer_link_length}
-use Rattle.events.specs.Loggings.{LoggedEvent, transition, rsna, peer_link, event_type, event_body, entry_with, Logging, entry_for}
+use Rattle.events.specs.Loggings.{transition, rsna, peer_link, event_type, event_body, entry_with, entry_for}
 use Rattle.events.proofs.TransitionLaws.{body_length}
 use Rattle.events.proofs.RsnaLaws.{rsna-whole}
 use Rattle.events.proofs.PeerLinkLaws.{peer-link-length}
@@ -34,9 +33,9 @@ use Rattle.events.proofs.LoggingLaws.{time-length, body_back}
 use Rattle.reports.specs.Reports.{report_element, event_element}
 use Rattle.report_reader.specs.declared.Step.{Step}
 use Rattle.report_reader.specs.declared.Report.{Report}
-use Rattle.report_reader.specs.Reader.{refused_step, plain_step, report_length, is_rsna_length, is_event_length, typed_step, event_step, walked_step, diagnostic_step, own_report_step, step_at, Reading, reading, gathered, unread, read_step, read_elements, report_of}
+use Rattle.report_reader.specs.Reader.{refused_step, plain_step, report_length, is_event_length, typed_step, event_step, walked_step, diagnostic_step, own_report_step, step_at, Reading, reading, gathered, unread, read_step, read_elements, report_of}
 use Rattle.report_reader.specs.Contents.{Content, status_only, logged_event, kept_unread, with_subelements, Valid, content_octets, content_frame, content_read}
-use Rattle.report_reader.specs.Forms.{Differ, LengthsDiffer, OtherFormRefused, NoEvent, OtherFormNeverShown, tells_event, OtherFrameRefused, Same, SameInBothForms}
+use Rattle.report_reader.specs.Forms.{Differ, LengthsDiffer, OtherFormRefused, NoEvent, OtherFormNeverShown, tells_event, OtherFrameRefused, SameInBothForms}
 use Rattle.report_reader.proofs.Laws.{time_least}
 use Rattle.report_reader.proofs.DecodersBack.{typed}
 use Rattle.report_reader.proofs.RoundTrip.{ty_there, status_there, own_there, own_event, content_back, content_some, report-of, elements_back}

@@ -17,7 +17,7 @@ use Rattle.laws.proofs.Parts.{stands_at, stands-first, stands-length, stands-beh
 use Rattle.laws.proofs.Pieces.{Each, each_all, along}
 use Rattle.octets.specs.declared.numbers.Kind.{Kind}
 use Rattle.octets.specs.declared.numbers.Kind.TheVariants.{Event, Diagnostic}
-use Rattle.octets.specs.Numbers.{category, report_action, report_id, successful, longest_frame}
+use Rattle.octets.specs.Numbers.{category, report_action, report_id, longest_frame}
 use Rattle.octets.specs.Refusals.{no_refusal}
 use Rattle.octets.specs.Fields.{octets_at}
 use Rattle.octets.specs.Addresses.{is_group}

@@ -22,7 +22,6 @@ use Rattle.octets.specs.declared.numbers.Kind.TheVariants.{Event, Diagnostic}
 use Rattle.octets.specs.declared.refusals.Refusal.{Refusal}
 use Rattle.octets.specs.Refusals.{no_refusal}
 use Rattle.octets.specs.Numbers.{request_id}
-use Rattle.octets.specs.Elements.{framed}
 use Rattle.octets.proofs.ElementLaws.{piece_stands}
 use Rattle.octets.proofs.FieldLaws.{pair_halves}
 use Rattle.subelements.specs.Subelements.{no_filter, walked, tables, walk}

@@ -7,7 +7,6 @@ use denote.Array.{each}
 use denote.Shadow.{shadow}
 use borrow.Kind.Array.{e_struct}
 use borrow.Author.Rules.{rules}
-use Rattle.laws.proofs.Arrays.{length_mapped}
 use Rattle.requests.specs.contracts.Element.{the_type}
 use Rattle.requests.proofs.Element.TheLaws.{the_laws, the_copy}
 use Rattle.laws.specs.Members.{All, nil, also}
@@ -37,7 +36,7 @@ pub shaped : (es : List Element) (us : List Val) → shadow (each Element (e_str
 shaped =
     each_all (e_struct the_type the_laws the_copy).ty.own_val
     (λ x u p.
-      record {
-        filter = let h = p.1.1.1.1.1.1.1.0 in search rules;
-        octets = each_all (Rattle.subelements.specs.contracts.Condition.the_row).own_val (λ y v q. let h = q.1.1.0 in search rules) x.filter _ p.1.1.1.1.1.1.1.0.1.1;
-      })
+    record {
+      filter = let h = p.1.1.1.1.1.1.1.0 in search rules;
+      octets = each_all (Rattle.subelements.specs.contracts.Condition.the_row).own_val (λ y v q. let h = q.1.1.0 in search rules) x.filter _ p.1.1.1.1.1.1.1.0.1.1;
+    })

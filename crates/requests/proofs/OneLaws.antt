@@ -1,7 +1,7 @@
 -- One element by itself: each test on the way to a return of its reader.
 -- Assumes nothing.
-use Prim.Native.Nat.{ℕ, ◌+◌, ◌≤◌, ◌<◌}
-use mathlib.Core.Path.{◌≡◌, refl, sym, ap, ◌∙◌}
+use Prim.Native.Nat.{ℕ, ◌≤◌, ◌<◌}
+use mathlib.Core.Path.{◌≡◌, ◌∙◌}
 use mathlib.Core.Bool.{true, false}
 use mathlib.Core.List.{List}
 use lib.ListN.{length, get_or}
@@ -15,7 +15,6 @@ use Rattle.octets.specs.Numbers.{request_id}
 use Rattle.octets.specs.Elements.{piece_end}
 use Rattle.octets.proofs.ElementLaws.{piece_ends}
 use Rattle.subelements.specs.declared.Subelements.{Subelements}
-use Rattle.requests.specs.declared.OneElement.{OneElement}
 use Rattle.requests.specs.Elements.{least_body, zero_token, subelements_of, element_of, bad_token, with_element, own_request_step}
 use Rattle.requests.specs.OneElement.{refused_one, read_element}
 

@@ -1,7 +1,6 @@
 -- `firmware_explain::explanation_of` meets its contract.
 -- Assumes nothing.
 use Rattle.firmware_explain.specs.Numbers.{numbered_explanation}
-use borrow.Author.Rules.{rules}
 use Rattle.firmware_explain.proofs.explanation_of.Goals as goal
 
 pub returns-in-Refused : goal.returns-in-Refused

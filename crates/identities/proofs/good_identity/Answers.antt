@@ -3,7 +3,6 @@
 use borrow.Author.Tests.{lt-ltb, le-ltb}
 use Rattle.laws.specs.Choice.{if◌then◌else◌}
 use Rattle.identities.specs.Identity.{good_identity}
-use borrow.Author.Rules.{rules}
 use Rattle.identities.proofs.good_identity.Goals as goal
 
 pub returns-then-s-gt252 : goal.returns-then-s-gt252

@@ -1,13 +1,9 @@
 -- `identities::pass_rows` meets its contract. The invariant: the rows left give what the table gives.
 -- Assumes nothing.
 use Prim.Native.Nat.{◌≤◌, ◌-◌}
-use mathlib.Core.Path.{◌≡◌, refl, sym, ◌∙◌}
-use native.Mathlib.Omega.{arith}
+use mathlib.Core.Path.{◌≡◌}
 use lib.ListN.{drop}
-use borrow.Author.Tests.{not-true, not-false}
 use Rattle.identities.specs.Identity.{rows, good_from}
-use Rattle.identities.proofs.Laws.{rows_next, rows_stop, rows_end}
-use borrow.Author.Rules.{rules}
 use Rattle.identities.proofs.pass_rows.Given as goal
 
 abbrev pub invariant-loop-i : goal.invariant-loop-i

@@ -2,7 +2,6 @@
 -- Assumes nothing.
 use borrow.Author.Tests.{lt-ltb, le-ltb}
 use Rattle.identities.specs.Identity.{stands}
-use borrow.Author.Rules.{rules}
 use Rattle.identities.proofs.stands.Goals as goal
 
 pub returns-then-s-at : goal.returns-then-s-at

@@ -1,10 +1,7 @@
 -- `replay::call` meets its contract: what is printed goes by the number of the record.
 -- Assumes nothing.
-use mathlib.Core.Path.{ap, ◌∙◌}
 use Rattle.laws.specs.Choice.{if◌then◌else◌}
-use Rattle.station.specs.Views.{view}
 use Rattle.replays.specs.Replay.{station_after}
-use borrow.Author.Rules.{rules}
 use Rattle.replay.proofs.call.Goals as goal
 
 pub returns-in-4 : goal.returns-in-4

@@ -1,12 +1,7 @@
 -- `replay::replay` meets its contract. The invariant, `Replaying`: what is left of the trace gives what the whole gives.
 -- Assumes nothing.
-use Prim.Native.Nat.{◌-◌}
 use mathlib.Core.Path.{refl}
-use native.Mathlib.Omega.{arith}
-use lib.ListN.{length}
-use borrow.Author.Rules.{rules}
-use Rattle.station.specs.Views.{view}
-use Rattle.replays.proofs.Laws.{leaves, Replaying, replay_start, replay_stop, replay_end, replay_next}
+use Rattle.replays.proofs.Laws.{leaves, replay_start, replay_stop, replay_end, replay_next}
 use Rattle.replay.proofs.replay.Goals as goal
 
 pub loop-at-init : goal.loop-at-init

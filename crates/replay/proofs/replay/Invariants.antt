@@ -1,12 +1,9 @@
 -- `replay::replay` meets its contract. The invariant, `Replaying`: what is left of the trace gives what the whole gives.
 -- Assumes nothing.
 use Prim.Native.Nat.{◌-◌}
-use mathlib.Core.Path.{refl}
-use native.Mathlib.Omega.{arith}
 use lib.ListN.{length}
-use borrow.Author.Rules.{rules}
 use Rattle.station.specs.Views.{view}
-use Rattle.replays.proofs.Laws.{leaves, Replaying, replay_start, replay_stop, replay_end, replay_next}
+use Rattle.replays.proofs.Laws.{Replaying}
 use Rattle.replay.proofs.replay.Given as goal
 
 abbrev pub invariant-loop-at : goal.invariant-loop-at

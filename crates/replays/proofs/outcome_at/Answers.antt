@@ -6,7 +6,6 @@ use borrow.Author.Tests.{ne_eqb}
 use Rattle.laws.specs.Choice.{if◌then◌else◌}
 use Rattle.replays.specs.Replay.{station_after}
 use Rattle.replays.proofs.Laws.{leaves}
-use borrow.Author.Rules.{rules}
 use Rattle.replays.proofs.outcome_at.Goals as goal
 
 pub returns-in-0 : goal.returns-in-0
@@ -47,5 +46,5 @@ returns-in-8 c = rw (← c.octet.ensures, c.in-8.is) (leaves _ _ [] _ refl c.log
 
 pub returns-in_default : goal.returns-in_default
 unfolding station_after if◌then◌else◌
-returns-in_default c =    let r = c.in_default.in_default-own.rest in
+returns-in_default c = let r = c.in_default.in_default-own.rest in
     rw (← c.octet.ensures, ne_eqb _ 0 r.0.0.0.0.0.0.0.0.1, ne_eqb _ 1 r.0.0.0.0.0.0.0.1, ne_eqb _ 2 r.0.0.0.0.0.0.1, ne_eqb _ 3 r.0.0.0.0.0.1, ne_eqb _ 4 r.0.0.0.0.1, ne_eqb _ 5 r.0.0.0.1, ne_eqb _ 6 r.0.0.1, ne_eqb _ 7 r.0.1, ne_eqb _ 8 r.1)

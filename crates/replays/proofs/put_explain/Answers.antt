@@ -3,7 +3,6 @@
 use borrow.Author.Tests.{eq-eqb, ne_eqb}
 use Rattle.laws.specs.Choice.{if◌then◌else◌}
 use Rattle.replays.specs.Replay.{explain_line}
-use borrow.Author.Rules.{rules}
 use Rattle.replays.proofs.put_explain.Goals as goal
 
 pub returns-then-end-eq0-clause-line_after : goal.returns-then-end-eq0-clause-line_after

@@ -3,7 +3,6 @@
 use borrow.Author.Tests.{lt-ltb, le-ltb}
 use Rattle.laws.specs.Choice.{if◌then◌else◌}
 use Rattle.replays.specs.Replay.{explained_line}
-use borrow.Author.Rules.{rules}
 use Rattle.replays.proofs.put_explained.Goals as goal
 
 pub returns-then-r-trace-clause-line_after : goal.returns-then-r-trace-clause-line_after

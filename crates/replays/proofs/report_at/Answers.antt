@@ -1,15 +1,13 @@
 -- `replays::report_at` meets its contract.
 -- Assumes nothing.
-use mathlib.Core.Path.{refl, sym}
+use mathlib.Core.Path.{refl}
 use lib.ListN.{replicate, length-replicate}
-use lib.Seq.{length-take-le}
 use Rattle.laws.proofs.Arrays.{take_within}
 use Rattle.traces.specs.Places.{longest_length}
 use Rattle.replays.proofs.Laws.{leaves}
-use borrow.Author.Rules.{rules}
 use Rattle.replays.proofs.report_at.Goals as goal
 
 pub returns : goal.returns
-returns c =    let call = c.report_call_at-c.result in
+returns c = let call = c.report_call_at-c.result in
     let lent = take_within (replicate longest_length call.fill) longest_length c.least-n.result (length-replicate longest_length call.fill) call.length c.least-n.ensures in
     rw (← c.report_call_at-c.ensures) (leaves _ _ _ _ refl (rw lent at c.report_into-outcome.ensures))

@@ -3,7 +3,6 @@
 use native.Mathlib.Omega.{arith}
 use Rattle.texts.proofs.PutLaws.{one, at_most, both}
 use Rattle.report_listing.specs.Listing.{bare_text}
-use borrow.Author.Rules.{rules}
 use Rattle.report_listing.proofs.put_bare.Goals as goal
 
 pub returns : goal.returns

@@ -2,7 +2,6 @@
 -- Assumes nothing.
 use Rattle.texts.proofs.PutLaws.{both}
 use Rattle.report_listing.specs.Listing.{clock_text}
-use borrow.Author.Rules.{rules}
 use Rattle.report_listing.proofs.put_clock.Goals as goal
 
 pub returns : goal.returns

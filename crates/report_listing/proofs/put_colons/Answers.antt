@@ -6,11 +6,10 @@ use lib.ListN.{length, drop, length-drop}
 use lib.Seq.{take_all}
 use Rattle.texts.proofs.PutLaws.{short, at_most, both}
 use Rattle.report_listing.specs.Listing.{colon_text}
-use borrow.Author.Rules.{rules}
 use Rattle.report_listing.proofs.put_colons.Goals as goal
 
 pub returns : goal.returns
 unfolding colon_text
-returns c =    let o = c.args.o.now in
+returns c = let o = c.args.o.now in
     let n = length-drop 1 o in
     at_most _ (omega (arith, n, c.requires)) (both (short (c.put_hex-next.ensures.buf_after, c.put_hex-next.ensures.x_in_bounds)) (rw (take_all (length o - 1) (drop 1 o) (omega (arith, n))) at c.put_hexes.ensures))

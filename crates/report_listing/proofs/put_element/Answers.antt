@@ -2,7 +2,6 @@
 -- Assumes nothing.
 use Rattle.texts.proofs.PutLaws.{one, both}
 use Rattle.report_listing.specs.Listing.{report_element_line}
-use borrow.Author.Rules.{rules}
 use Rattle.report_listing.proofs.put_element.Goals as goal
 
 pub returns : goal.returns

@@ -1,11 +1,9 @@
 -- `report_listing::put_elements` meets its contract. The invariant, `Listed`: the elements that were handed out are written, and what is left of the walk gives the rest.
 -- Assumes nothing.
-use Prim.Native.Nat.{◌-◌}
 use native.Mathlib.Omega.{arith}
-use lib.ListN.{length}
 use Rattle.report_reader.proofs.Laws.{goes_on, found_extent}
 use borrow.Author.Rules.{rules}
-use Rattle.report_listing.proofs.Laws.{Listed, listed_start, listed_next, listed_end, accepted}
+use Rattle.report_listing.proofs.Laws.{listed_start, listed_next, listed_end, accepted}
 use Rattle.report_listing.proofs.put_elements.Goals as goal
 
 pub loop-cursor-init : goal.loop-cursor-init
@@ -15,7 +13,7 @@ pub put_step-at-requires : goal.put_step-at-requires
 put_step-at-requires c f = (found_extent _ _ _ _ _ c.next-step.ensures f).within
 
 pub loop-cursor-smaller : goal.loop-cursor-smaller
-loop-cursor-smaller c =    let is = c.next-step.ensures in
+loop-cursor-smaller c = let is = c.next-step.ensures in
     let no = accepted c.loop-cursor.invariant c.requires.0 c.requires.1 c.loop-cursor-test.true _ is in
     omega (arith, (goes_on _ _ _ _ _ is no).on, c.loop-cursor-test.true)
 

@@ -1,11 +1,8 @@
 -- `report_listing::put_elements` meets its contract. The invariant, `Listed`: the elements that were handed out are written, and what is left of the walk gives the rest.
 -- Assumes nothing.
 use Prim.Native.Nat.{◌-◌}
-use native.Mathlib.Omega.{arith}
 use lib.ListN.{length}
-use Rattle.report_reader.proofs.Laws.{goes_on, found_extent}
-use borrow.Author.Rules.{rules}
-use Rattle.report_listing.proofs.Laws.{Listed, listed_start, listed_next, listed_end, accepted}
+use Rattle.report_listing.proofs.Laws.{Listed}
 use Rattle.report_listing.proofs.put_elements.Given as goal
 
 abbrev pub invariant-loop-cursor : goal.invariant-loop-cursor

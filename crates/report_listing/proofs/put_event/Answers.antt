@@ -4,7 +4,6 @@ use borrow.Author.Tests.{ne_eqb}
 use Rattle.laws.specs.Choice.{if◌then◌else◌}
 use Rattle.report_reader.specs.Decoders.{decoded}
 use Rattle.report_listing.specs.Listing.{event_text}
-use borrow.Author.Rules.{rules}
 use Rattle.report_listing.proofs.put_event.Goals as goal
 
 pub returns-in-0 : goal.returns-in-0

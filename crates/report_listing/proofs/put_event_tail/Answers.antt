@@ -6,7 +6,6 @@ use Rattle.laws.specs.Choice.{if◌then◌else◌}
 use Rattle.texts.proofs.PutLaws.{at_most, nothing}
 use Rattle.report_listing.specs.Listing.{event_tail}
 use Rattle.report_listing.specs.Internal.{unread_most}
-use borrow.Author.Rules.{rules}
 use Rattle.report_listing.proofs.put_event_tail.Goals as goal
 
 pub returns-then-e : goal.returns-then-e

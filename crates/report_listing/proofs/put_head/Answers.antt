@@ -2,7 +2,6 @@
 -- Assumes nothing.
 use Rattle.texts.proofs.PutLaws.{short, both}
 use Rattle.report_listing.specs.Listing.{head_text}
-use borrow.Author.Rules.{rules}
 use Rattle.report_listing.proofs.put_head.Goals as goal
 
 pub returns : goal.returns

@@ -11,7 +11,7 @@ use Rattle.report_listing.proofs.put_peer_link.Goals as goal
 
 pub returns : goal.returns
 unfolding peer_link_text
-returns c =    let e = c.args.e in
+returns c = let e = c.args.e in
     let six : length e.peer ≡ 6 = search (rules, c.well_formed) in
     rw (← c.three.ensures)
     (at_most event_most (omega (arith, six))

@@ -11,7 +11,7 @@ use Rattle.report_listing.proofs.put_published.Goals as goal
 
 pub returns : goal.returns
 unfolding published_text
-returns c =    let t = c.args.t in
+returns c = let t = c.args.t in
     let tsf : length t.tsf ≡ 8 = search (rules, c.well_formed) in
     let offset : length t.offset ≡ 10 = search (rules, c.well_formed) in
     let error : length t.error ≡ 5 = search (rules, c.well_formed) in

@@ -1,9 +1,8 @@
 -- `report_listing::put_rsn` meets its contract.
 -- Assumes nothing.
-use mathlib.Core.Path.{◌≡◌, sym}
+use mathlib.Core.Path.{◌≡◌}
 use native.Mathlib.Omega.{arith}
 use lib.ListN.{length, length-take}
-use lib.Seq.{length-take-le}
 use borrow.Author.Tests.{eq-eqb, ne_eqb}
 use Rattle.laws.specs.Choice.{if◌then◌else◌}
 use Rattle.laws.proofs.Arrays.{take_within}
@@ -19,7 +18,7 @@ returns-then-size-eq0 c = rw (eq-eqb _ 0 c.if-size-eq0.true) (at_most 49 (omega 
 
 pub returns : goal.returns
 unfolding rsn_text if◌then◌else◌
-returns c =    let a = c.args in
+returns c = let a = c.args in
     let l : length a.rsn ≡ rsn_length = search rules in
     let n = c.least-n.result in
     let m = c.least-n.ensures in

@@ -11,7 +11,7 @@ use Rattle.report_listing.proofs.put_rsna.Goals as goal
 
 pub returns : goal.returns
 unfolding rsna_text
-returns c =    let e = c.args.e in
+returns c = let e = c.args.e in
     let six : length e.target ≡ 6 = search (rules, c.well_formed) in
     let four : length e.authentication ≡ 4 = search (rules, c.well_formed) in
     at_most event_most (omega (arith, six, four))

@@ -7,12 +7,11 @@ use Rattle.laws.specs.Choice.{if◌then◌else◌}
 use Rattle.octets.proofs.PlaceLaws.{octets_part}
 use Rattle.texts.proofs.PutLaws.{nothing}
 use Rattle.report_listing.specs.Internal.{step_line, step_most}
-use borrow.Author.Rules.{rules}
 use Rattle.report_listing.proofs.put_step.Goals as goal
 
 pub returns-then-step : goal.returns-then-step
 unfolding step_line step_most if◌then◌else◌
-returns-then-step c =    let a = c.args in
+returns-then-step c = let a = c.args in
     let rest = a.step.rest in
     let n = a.step.element.length in
     let e : rest + n - rest ≡ n = omega arith in

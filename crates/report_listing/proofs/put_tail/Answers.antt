@@ -3,7 +3,6 @@
 use Rattle.texts.proofs.PutLaws.{short, at_most}
 use Rattle.report_listing.specs.Listing.{tail_text}
 use Rattle.report_listing.proofs.Laws.{tail-most}
-use borrow.Author.Rules.{rules}
 use Rattle.report_listing.proofs.put_tail.Goals as goal
 
 pub returns-in-Event : goal.returns-in-Event

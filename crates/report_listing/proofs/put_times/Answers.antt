@@ -6,7 +6,6 @@ use Rattle.laws.specs.Choice.{if◌then◌else◌}
 use Rattle.texts.proofs.PutLaws.{at_most}
 use Rattle.report_listing.specs.Listing.{times_text}
 use Rattle.report_listing.specs.Internal.{times_most}
-use borrow.Author.Rules.{rules}
 use Rattle.report_listing.proofs.put_times.Goals as goal
 
 pub returns-then-form-eq-DRAFT : goal.returns-then-form-eq-DRAFT

@@ -11,7 +11,7 @@ use Rattle.report_listing.proofs.put_transition.Goals as goal
 
 pub returns : goal.returns
 unfolding transition_text
-returns c =    let e = c.args.e in
+returns c = let e = c.args.e in
     let six : length e.source ≡ 6 = search (rules, c.well_formed) in
     let other : length e.target ≡ 6 = search (rules, c.well_formed) in
     at_most event_most (omega (arith, six, other))

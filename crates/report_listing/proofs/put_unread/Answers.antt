@@ -6,7 +6,6 @@ use Rattle.laws.specs.Choice.{if◌then◌else◌}
 use Rattle.texts.proofs.PutLaws.{short, at_most, nothing}
 use Rattle.report_listing.specs.Listing.{unread_text}
 use Rattle.report_listing.specs.Internal.{unread_most}
-use borrow.Author.Rules.{rules}
 use Rattle.report_listing.proofs.put_unread.Goals as goal
 
 pub returns-in-0-to-2 : goal.returns-in-0-to-2

@@ -17,7 +17,7 @@ returns-then-method c = rw (ne_eqb _ 254 c.if-method.true) (at_most 42 (omega ar
 
 pub returns : goal.returns
 unfolding vendor_text if◌then◌else◌
-returns c =    let m = c.args.method in
+returns c = let m = c.args.method in
     let l : length m ≡ 8 = search rules in
     let d₁ = length-drop 1 m in
     let d₄ = length-drop 4 m in

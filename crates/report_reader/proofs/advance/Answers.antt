@@ -9,17 +9,16 @@ use Rattle.report_reader.specs.declared.Verdict.{Verdict}
 use Rattle.report_reader.specs.declared.Walk.{Walk}
 use Rattle.report_reader.specs.Reader.{element_read_at, gathered}
 use Rattle.report_reader.specs.Internal.{verdict_of}
-use borrow.Author.Rules.{rules}
 use Rattle.report_reader.proofs.advance.Goals as goal
 
 pub returns-then-refusal-ne0 : goal.returns-then-refusal-ne0
 unfolding gathered verdict_of if◌then◌else◌
-returns-then-refusal-ne0 c form s x t p e =    let r = ap (λ (v : Verdict). v.refusal) e in
+returns-then-refusal-ne0 c form s x t p e = let r = ap (λ (v : Verdict). v.refusal) e in
     rw (← r, ne_eqb _ 0 c.if-refusal-ne0.true)
 
 pub returns-then-v : goal.returns-then-v
 unfolding gathered verdict_of if◌then◌else◌
-returns-then-v c form s x t p e =    let r = ap (λ (v : Verdict). v.refusal) e in
+returns-then-v c form s x t p e = let r = ap (λ (v : Verdict). v.refusal) e in
     let f = ap (λ (v : Verdict). v.found) e in
     let n = ap (λ (v : Verdict). v.next) e in
     let k = ap (λ (w : Walk). w.count) p in
@@ -27,7 +26,7 @@ returns-then-v c form s x t p e =    let r = ap (λ (v : Verdict). v.refusal) e 
 
 pub returns : goal.returns
 unfolding gathered verdict_of if◌then◌else◌
-returns c form s x t p e =    let r = ap (λ (v : Verdict). v.refusal) e in
+returns c form s x t p e = let r = ap (λ (v : Verdict). v.refusal) e in
     let f = ap (λ (v : Verdict). v.found) e in
     let n = ap (λ (v : Verdict). v.next) e in
     let k = ap (λ (w : Walk). w.count) p in

@@ -2,7 +2,6 @@
 -- Assumes nothing.
 use Rattle.report_reader.specs.Reader.{logged_step}
 use Rattle.report_reader.specs.Internal.{verdict_of}
-use borrow.Author.Rules.{rules}
 use Rattle.report_reader.proofs.logged.Goals as goal
 
 pub returns : goal.returns

@@ -1,7 +1,6 @@
 -- `report_reader::skipped` meets its contract.
 -- Assumes nothing.
 use Rattle.report_reader.specs.Internal.{verdict_of}
-use borrow.Author.Rules.{rules}
 use Rattle.report_reader.proofs.skipped.Goals as goal
 
 pub returns : goal.returns

@@ -1,9 +1,7 @@
 -- `report_reader::step_of` meets its contract.
 -- Assumes nothing.
-use native.Mathlib.Omega.{arith}
 use Rattle.laws.specs.Choice.{if◌then◌else◌}
 use Rattle.report_reader.specs.Internal.{step_of}
-use borrow.Author.Rules.{rules}
 use Rattle.report_reader.proofs.step_of.Goals as goal
 
 pub returns-then-v : goal.returns-then-v

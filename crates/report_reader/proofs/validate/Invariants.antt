@@ -1,11 +1,8 @@
 -- `report_reader::validate` meets its contract. The invariant, `Validating`: the walk is what is kept of a reading, and what is left of that gives the whole.
 -- Assumes nothing.
 use Prim.Native.Nat.{◌-◌}
-use mathlib.Core.Path.{◌∙◌}
-use native.Mathlib.Omega.{arith}
 use lib.ListN.{length}
-use Rattle.report_reader.proofs.Laws.{Validating, validating_start, validating_end, validating_refused, validating_on, validating_next}
-use borrow.Author.Rules.{rules}
+use Rattle.report_reader.proofs.Laws.{Validating}
 use Rattle.report_reader.proofs.validate.Given as goal
 
 abbrev pub invariant-loop-w : goal.invariant-loop-w

@@ -6,7 +6,6 @@ use native.Mathlib.Omega.{arith}
 use borrow.Author.Tests.{not-false}
 use Rattle.laws.specs.Choice.{if◌then◌else◌}
 use Rattle.report_reader.specs.Internal.{held}
-use borrow.Author.Rules.{rules}
 use Rattle.report_reader.proofs.validate_held.Goals as goal
 
 pub returns-then-not-v : goal.returns-then-not-v
@@ -19,7 +18,7 @@ returns-in-Event c = rw (c.if-not-v.false, c.in-Event.is) c.validate_time.ensure
 
 pub returns-in-Diagnostic : goal.returns-in-Diagnostic
 unfolding held if◌then◌else◌
-returns-in-Diagnostic c =    let a = c.args in
+returns-in-Diagnostic c = let a = c.args in
     let f = c.requires.fits (not-false _ c.if-not-v.false) in
     let e : a.v.next ≡ a.at + 2 + (a.v.next - (a.at + 2)) = omega (arith, f.head) in
     rw (c.if-not-v.false, c.in-Diagnostic.is) (c.validate_diagnostic.ensures (a.v.next - (a.at + 2)) e)

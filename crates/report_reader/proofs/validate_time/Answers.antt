@@ -1,10 +1,7 @@
 -- `report_reader::validate_time` meets its contract.
 -- Assumes nothing.
-use native.Mathlib.Omega.{arith}
-use borrow.Author.Tests.{not-false}
 use Rattle.laws.specs.Choice.{if◌then◌else◌}
 use Rattle.report_reader.specs.Internal.{timed_verdict}
-use borrow.Author.Rules.{rules}
 use Rattle.report_reader.proofs.validate_time.Goals as goal
 
 pub returns-then-not-v : goal.returns-then-not-v

@@ -3,7 +3,6 @@
 use borrow.Author.Tests.{eq-eqb, ne_eqb}
 use Rattle.laws.specs.Choice.{if◌then◌else◌}
 use Rattle.report_reader.specs.Reader.{walked_step}
-use borrow.Author.Rules.{rules}
 use Rattle.report_reader.proofs.validate_walked.Goals as goal
 
 pub returns-then-w-ne0 : goal.returns-then-w-ne0

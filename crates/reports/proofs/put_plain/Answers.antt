@@ -3,7 +3,6 @@
 use mathlib.Core.Path.{◌∙◌}
 use Rattle.reports.specs.Reports.{report_element}
 use Rattle.reports.proofs.Laws.{put_at_front}
-use borrow.Author.Rules.{rules}
 use Rattle.reports.proofs.put_plain.Goals as goal
 
 pub returns : goal.returns

@@ -2,7 +2,6 @@
 -- Assumes nothing.
 use Rattle.laws.specs.Choice.{if◌then◌else◌}
 use borrow.Author.Tests.{ne_eqb}
-use borrow.Author.Rules.{rules}
 use Rattle.reports.proofs.put_time.Goals as goal
 
 pub returns-then-form-eq-DRAFT : goal.returns-then-form-eq-DRAFT

@@ -3,7 +3,6 @@
 use native.Mathlib.Omega.{arith}
 use Rattle.texts.proofs.PutLaws.{short, at_most}
 use Rattle.request_listing.specs.Listing.{limit_field}
-use borrow.Author.Rules.{rules}
 use Rattle.request_listing.proofs.put_limit.Goals as goal
 
 pub returns-in-Event : goal.returns-in-Event

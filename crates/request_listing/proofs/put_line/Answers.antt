@@ -2,7 +2,6 @@
 -- Assumes nothing.
 use Rattle.texts.proofs.PutLaws.{one, short, both}
 use Rattle.request_listing.specs.Listing.{request_element_line}
-use borrow.Author.Rules.{rules}
 use Rattle.request_listing.proofs.put_line.Goals as goal
 
 pub returns : goal.returns

@@ -1,13 +1,10 @@
 -- `request_listing::put_lines` meets its contract. The invariant, `Lining`: the lines of the elements before this one stand there.
 -- Assumes nothing.
-use Prim.Native.Nat.{◌-◌}
-use mathlib.Core.Path.{◌≡◌}
 use native.Mathlib.Omega.{arith}
-use lib.ListN.{length, length-take}
+use lib.ListN.{length-take}
 use Rattle.laws.proofs.Arrays.{length_mapped}
-use Rattle.texts.proofs.PutLaws.{Lining, lining_start, lining_next, lining_end}
-use Rattle.requests.specs.Elements.{element_capacity, past_elements}
-use Rattle.request_listing.specs.Listing.{request_element_line, element_most}
+use Rattle.texts.proofs.PutLaws.{lining_start, lining_next, lining_end}
+use Rattle.requests.specs.Elements.{past_elements}
 use borrow.Author.Rules.{rules}
 use Rattle.request_listing.proofs.put_lines.Goals as goal
 
@@ -18,5 +15,5 @@ pub returns-then-i-ge-ELEMENT_CAPACITY : goal.returns-then-i-ge-ELEMENT_CAPACITY
 returns-then-i-ge-ELEMENT_CAPACITY c = let l = c.loop-i.invariant in rw l.0 at (lining_end l.1 (omega (arith, l.0, c.if-i-ge-ELEMENT_CAPACITY.true, length-take c.args.count c.args.es)))
 
 pub loop-i-preserved : goal.loop-i-preserved
-loop-i-preserved c =    let l = c.loop-i.invariant in
+loop-i-preserved c = let l = c.loop-i.invariant in
     (l.0, lining_next l.1 past_elements c.loop-i-test.true (omega (arith, l.0, c.if-i-ge-ELEMENT_CAPACITY.false)) (search rules) c.put_line-at.ensures)

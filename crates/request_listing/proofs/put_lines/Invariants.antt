@@ -2,13 +2,10 @@
 -- Assumes nothing.
 use Prim.Native.Nat.{◌-◌}
 use mathlib.Core.Path.{◌≡◌}
-use native.Mathlib.Omega.{arith}
-use lib.ListN.{length, length-take}
-use Rattle.laws.proofs.Arrays.{length_mapped}
-use Rattle.texts.proofs.PutLaws.{Lining, lining_start, lining_next, lining_end}
-use Rattle.requests.specs.Elements.{element_capacity, past_elements}
+use lib.ListN.{length}
+use Rattle.texts.proofs.PutLaws.{Lining}
+use Rattle.requests.specs.Elements.{element_capacity}
 use Rattle.request_listing.specs.Listing.{request_element_line, element_most}
-use borrow.Author.Rules.{rules}
 use Rattle.request_listing.proofs.put_lines.Given as goal
 
 abbrev pub invariant-loop-i : goal.invariant-loop-i

@@ -5,7 +5,6 @@ use borrow.Author.Tests.{eq-eqb, ne_eqb}
 use Rattle.laws.specs.Choice.{if◌then◌else◌}
 use Rattle.texts.proofs.PutLaws.{short, at_most, both}
 use Rattle.request_listing.specs.Listing.{request_listing, request_listing_most}
-use borrow.Author.Rules.{rules}
 use Rattle.request_listing.proofs.put_listing.Goals as goal
 
 pub returns-then-r-ne0 : goal.returns-then-r-ne0

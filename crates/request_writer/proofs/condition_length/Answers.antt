@@ -1,12 +1,11 @@
 -- `request_writer::condition_length` meets its contract.
 -- Assumes nothing.
-use mathlib.Core.Path.{◌≡◌, sym, ◌∙◌}
+use mathlib.Core.Path.{◌≡◌}
 use native.Mathlib.Omega.{arith}
 use borrow.Author.Tests.{not-true, not-false}
 use Rattle.laws.specs.Choice.{if◌then◌else◌}
 use Rattle.request_writer.specs.Frames.{condition_length}
 use Rattle.request_writer.proofs.ConditionsBack.{length-within}
-use borrow.Author.Rules.{rules}
 use Rattle.request_writer.proofs.condition_length.Goals as goal
 
 pub returns-then-not-c : goal.returns-then-not-c
@@ -15,6 +14,6 @@ returns-then-not-c c = (rw (not-true c.args.c.present c.if-not-c.true-raw), omeg
 
 pub returns : goal.returns
 unfolding condition_length if◌then◌else◌
-returns c =    let a = c.args in
+returns c = let a = c.args in
     let e : c.length_of.result ≡ condition_length a.ty a.id a.c = rw (not-false a.c.present c.if-not-c.false-raw) c.length_of.ensures in
     (e, omega (arith, e, length-within a.ty a.id a.c))

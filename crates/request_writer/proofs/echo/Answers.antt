@@ -13,21 +13,21 @@ use borrow.Author.Rules.{rules}
 use Rattle.request_writer.proofs.echo.Goals as goal
 
 pub slice_bounds-buf-end : goal.slice_bounds-buf-end
-slice_bounds-buf-end c =    let a = c.args in
+slice_bounds-buf-end c = let a = c.args in
     let shapes = shaped a.elements _ c.well_formed.1.1.0.1.1 in
     let eight : length a.elements ≡ element_capacity = search (rules, length_mapped) in
     let long : length c.write_request-w.new.buf ≡ 267 = search rules in
     omega (arith, long, (answer_bounded a.kind a.dialog a.elements a.count shapes eight 267).most, ap (λ (o : WriteOutcome). o.answer.length) c.write_request-w.ensures)
 
 pub slice_bounds-read_request-end : goal.slice_bounds-read_request-end
-slice_bounds-read_request-end c =    let a = c.args in
+slice_bounds-read_request-end c = let a = c.args in
     let shapes = shaped a.elements _ c.well_formed.1.1.0.1.1 in
     let eight : length a.elements ≡ element_capacity = search (rules, length_mapped) in
     let long : length c.write_request-w.new.buf ≡ 267 = search rules in
     sym (length-take-le _ _ (omega (arith, long, (answer_bounded a.kind a.dialog a.elements a.count shapes eight 267).most, ap (λ (o : WriteOutcome). o.answer.length) c.write_request-w.ensures)))
 
 pub returns : goal.returns
-returns c =    let a = c.args in
+returns c = let a = c.args in
     let shapes = shaped a.elements _ c.well_formed.1.1.0.1.1 in
     let eight : length a.elements ≡ element_capacity = search (rules, length_mapped) in
     echo_read a.kind a.dialog a.elements a.count shapes eight (replicate 267 0) c.write_request-w.new.buf c.write_request-w.result c.read_request.result refl c.write_request-w.ensures c.read_request.ensures

@@ -3,7 +3,6 @@
 use borrow.Author.Tests.{eq-eqb, ne_eqb}
 use Rattle.laws.specs.Choice.{if◌then◌else◌}
 use Rattle.request_writer.specs.Writer.{frame_answer}
-use borrow.Author.Rules.{rules}
 use Rattle.request_writer.proofs.frame_answer.Goals as goal
 
 pub returns-then-w-ne0 : goal.returns-then-w-ne0

@@ -5,7 +5,6 @@ use mathlib.Core.List.{List}
 use Prim.Native.Nat.{ℕ}
 use native.Mathlib.Omega.{arith}
 use lib.ListN.{length}
-use lib.Seq.{length-take-le}
 use Rattle.laws.specs.Buffers.{onto}
 use Rattle.laws.proofs.Buffers.{copied}
 use Rattle.laws.proofs.Parts.{spelt}
@@ -21,7 +20,7 @@ returns-then-n-eq0-clause-buf_after c = let a = c.args in let o = absent-octets 
 
 pub copy-requires : goal.copy-requires
 unfolding spelt
-copy-requires c =    let a = c.args in
+copy-requires c = let a = c.args in
     let long : length a.c.octets ≡ 8 = search rules in
     let e = condition-source a.ty a.id a.c c.condition_length-n.result c.if-n-eq0.false long c.condition_length-n.ensures.0 in
     omega (arith, ap length e, c.requires.1)

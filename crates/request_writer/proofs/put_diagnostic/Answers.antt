@@ -8,7 +8,6 @@ use Rattle.laws.proofs.Buffers.{copied}
 use Rattle.octets.specs.declared.numbers.Kind.TheVariants.{Diagnostic}
 use Rattle.request_writer.specs.Frames.{element_octets}
 use Rattle.request_writer.proofs.Writing.{diagnostic_octets}
-use borrow.Author.Rules.{rules}
 use Rattle.request_writer.proofs.put_diagnostic.Goals as goal
 
 pub returns-clause-value : goal.returns-clause-value

@@ -1,13 +1,7 @@
 -- `request_writer::put_elements` meets its contract. The invariant, `Laying`: the elements before this one stand at the front, and their tokens are good.
 -- Assumes nothing.
 use Prim.Native.Nat.{◌-◌}
-use mathlib.Core.Path.{sym, ap, ◌∙◌}
-use native.Mathlib.Omega.{arith}
-use lib.ListN.{length}
-use borrow.Author.Rules.{rules}
-use Rattle.laws.proofs.Arrays.{length_mapped}
-use Rattle.request_writer.specs.declared.Written.{Written}
-use Rattle.request_writer.proofs.Writing.{Laying, laying_start, laying_length, laying_fits, laying_bad, laying_next, laying_ninth, laying_end, laying_done}
+use Rattle.request_writer.proofs.Writing.{Laying}
 use Rattle.request_writer.proofs.put_elements.Given as goal
 
 abbrev pub invariant-loop-i : goal.invariant-loop-i

@@ -17,7 +17,7 @@ use borrow.Author.Rules.{rules}
 use Rattle.request_writer.proofs.put_event.Goals as goal
 
 pub put_filter-n-requires : goal.put_filter-n-requires
-put_filter-n-requires c =    let a = c.args in
+put_filter-n-requires c = let a = c.args in
     let five : length a.e.filter ≡ 5 = search (rules, length_mapped) in
     omega (arith, filter-length a.e.ty a.e.filter five, tail_length a.buf.now 5 (omega (arith, c.requires)))
 

@@ -1,21 +1,18 @@
 -- `request_writer::put_filter` meets its contract. The invariant, `Putting`: the conditions before this one stand at the front.
 -- Assumes nothing.
-use Prim.Native.Nat.{◌≤◌, ◌+◌, ◌-◌}
-use mathlib.Core.Path.{◌≡◌}
+use Prim.Native.Nat.{◌+◌}
 use native.Mathlib.Omega.{arith}
-use lib.ListN.{length, get_or, drop}
-use borrow.Author.Rules.{rules}
+use lib.ListN.{get_or, drop}
 use Rattle.laws.specs.Buffers.{pieces}
-use Rattle.laws.proofs.Buffers.{Putting, putting_start, putting_room, putting_length, putting_fits, putting_within, putting_next, putting_done, putting_end}
+use Rattle.laws.proofs.Buffers.{putting_fits, putting_next, putting_done, putting_end}
 use Rattle.laws.proofs.Pieces.{pieces_next, pieces_end}
-use Rattle.laws.proofs.Arrays.{length_mapped}
 use Rattle.subelements.specs.Subelements.{past_filter}
-use Rattle.request_writer.specs.Frames.{condition_octets, filter_octets}
+use Rattle.request_writer.specs.Frames.{condition_octets}
 use Rattle.request_writer.proofs.Lengths.{filter-length}
 use Rattle.request_writer.proofs.put_filter.Goals as goal
 
 pub put_condition-at-requires : goal.put_condition-at-requires
-put_condition-at-requires c =    let i = c.loop-id.invariant in
+put_condition-at-requires c = let i = c.loop-id.invariant in
     let a = c.args in
     let f = a.filter in
     let id = c.loop-id.id in
@@ -23,7 +20,7 @@ put_condition-at-requires c =    let i = c.loop-id.invariant in
     (omega arith, putting_fits i.2 (condition_octets a.ty id (get_or f id past_filter)) (pieces (condition_octets a.ty) (id + 1) (drop (id + 1) f)) next)
 
 pub loop-id-preserved : goal.loop-id-preserved
-loop-id-preserved c =    let i = c.loop-id.invariant in
+loop-id-preserved c = let i = c.loop-id.invariant in
     let a = c.args in
     let f = a.filter in
     let id = c.loop-id.id in

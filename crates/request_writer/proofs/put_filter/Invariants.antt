@@ -1,17 +1,11 @@
 -- `request_writer::put_filter` meets its contract. The invariant, `Putting`: the conditions before this one stand at the front.
 -- Assumes nothing.
-use Prim.Native.Nat.{◌≤◌, ◌+◌, ◌-◌}
+use Prim.Native.Nat.{◌≤◌, ◌-◌}
 use mathlib.Core.Path.{◌≡◌}
-use native.Mathlib.Omega.{arith}
-use lib.ListN.{length, get_or, drop}
-use borrow.Author.Rules.{rules}
+use lib.ListN.{length, drop}
 use Rattle.laws.specs.Buffers.{pieces}
-use Rattle.laws.proofs.Buffers.{Putting, putting_start, putting_room, putting_length, putting_fits, putting_within, putting_next, putting_done, putting_end}
-use Rattle.laws.proofs.Pieces.{pieces_next, pieces_end}
-use Rattle.laws.proofs.Arrays.{length_mapped}
-use Rattle.subelements.specs.Subelements.{past_filter}
+use Rattle.laws.proofs.Buffers.{Putting}
 use Rattle.request_writer.specs.Frames.{condition_octets, filter_octets}
-use Rattle.request_writer.proofs.Lengths.{filter-length}
 use Rattle.request_writer.proofs.put_filter.Given as goal
 
 abbrev pub invariant-loop-id : goal.invariant-loop-id

@@ -2,7 +2,6 @@
 -- Assumes nothing.
 use Rattle.laws.specs.Choice.{if◌then◌else◌}
 use Rattle.requests.specs.Elements.{bad_token}
-use borrow.Author.Rules.{rules}
 use Rattle.requests.proofs.bad_token.Goals as goal
 
 pub returns-then-zero_token : goal.returns-then-zero_token

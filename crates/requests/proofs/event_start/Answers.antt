@@ -3,8 +3,6 @@
 use borrow.Author.Tests.{lt-ltb, le-ltb}
 use Rattle.laws.specs.Choice.{if◌then◌else◌}
 use Rattle.requests.specs.Internal.{subelements_start}
-use borrow.Author.Rules.{rules}
-use Rattle.octets.proofs.octet.Reads as octet-reads
 use Rattle.requests.proofs.event_start.Goals as goal
 
 pub returns-then-size-lt-TABLES : goal.returns-then-size-lt-TABLES

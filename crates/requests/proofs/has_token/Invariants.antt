@@ -1,13 +1,9 @@
 -- `requests::has_token` meets its contract. The invariant: what is left of the elements has the token as the first n have.
 -- Assumes nothing.
 use Prim.Native.Nat.{◌≤◌, ◌-◌}
-use mathlib.Core.Path.{◌≡◌, refl, sym, ◌∙◌}
-use native.Mathlib.Omega.{arith}
-use lib.ListN.{length, take, drop, length-take}
-use borrow.Author.Rules.{rules}
-use Rattle.laws.proofs.Arrays.{length_mapped}
+use mathlib.Core.Path.{◌≡◌}
+use lib.ListN.{length, take, drop}
 use Rattle.requests.specs.Elements.{element_capacity, has_token}
-use Rattle.requests.proofs.Laws.{token_found, token_next, token_none}
 use Rattle.requests.proofs.has_token.Given as goal
 
 abbrev pub invariant-loop-i : goal.invariant-loop-i

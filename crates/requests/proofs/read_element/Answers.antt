@@ -3,7 +3,6 @@
 use mathlib.Core.Path.{sym, ◌∙◌}
 use native.Mathlib.Omega.{arith}
 use Rattle.requests.proofs.OneLaws.{one-past_end, one-behind, one-within, one-other, one-short, one_token, one-refused, one_found}
-use borrow.Author.Rules.{rules}
 use Rattle.requests.proofs.read_element.Goals as goal
 
 pub returns-then-end-eq0 : goal.returns-then-end-eq0

@@ -2,9 +2,7 @@
 -- Assumes nothing.
 use Prim.Native.Nat.{◌-◌}
 use lib.ListN.{length}
-use native.Mathlib.Omega.{arith}
-use borrow.Author.Rules.{rules}
-use Rattle.requests.proofs.Laws.{Walking, walking_start, lacks, found, moves, refused_edge, passed_over, refused_ninth, within, refused-length, refused_token, refused-subelements, added}
+use Rattle.requests.proofs.Laws.{Walking}
 use Rattle.requests.proofs.read_elements.Given as goal
 
 abbrev pub invariant-loop-next : goal.invariant-loop-next

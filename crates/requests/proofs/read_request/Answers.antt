@@ -6,12 +6,11 @@ use Rattle.laws.specs.Choice.{if◌then◌else◌}
 use Rattle.octets.specs.Frames.{frame_kind}
 use Rattle.requests.specs.Requests.{read_request}
 use Rattle.requests.proofs.Laws.{header_length}
-use borrow.Author.Rules.{rules}
 use Rattle.requests.proofs.read_request.Goals as goal
 
 pub returns-then-cause-ne0 : goal.returns-then-cause-ne0
 unfolding read_request if◌then◌else◌
-returns-then-cause-ne0 c =    let kind = c.frame_kind-kind.ensures ∙ ap (frame_kind _) c.request_action.ensures in
+returns-then-cause-ne0 c = let kind = c.frame_kind-kind.ensures ∙ ap (frame_kind _) c.request_action.ensures in
     rw (← kind, ← c.header_cause-cause.ensures, ne_eqb _ _ c.if-cause-ne0.true) c.refused.ensures
 
 pub read_elements-requires : goal.read_elements-requires
@@ -19,5 +18,5 @@ read_elements-requires c = header_length _ _ (sym c.header_cause-cause.ensures �
 
 pub returns : goal.returns
 unfolding read_request if◌then◌else◌
-returns c =    let kind = c.frame_kind-kind.ensures ∙ ap (frame_kind _) c.request_action.ensures in
+returns c = let kind = c.frame_kind-kind.ensures ∙ ap (frame_kind _) c.request_action.ensures in
     rw (← kind, ← c.header_cause-cause.ensures, eq-eqb _ _ c.if-cause-ne0.false) c.read_elements.ensures

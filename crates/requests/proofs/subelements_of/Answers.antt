@@ -5,11 +5,10 @@ use Prim.Native.Nat.{ℕ}
 use Rattle.subelements.specs.Subelements.{walk}
 use Rattle.requests.specs.Elements.{table_of}
 use Rattle.requests.proofs.Laws.{subelements-from, subelements_few}
-use borrow.Author.Rules.{rules}
 use Rattle.requests.proofs.subelements_of.Goals as goal
 
 pub returns : goal.returns
-returns c =    let a = c.args in
+returns c = let a = c.args in
     let s = a.s.now in
     let t = c.table_of-ty.ensures ∙ ap (table_of a.kind) c.octet.ensures in
     let e = c.walk.ensures ∙ ap₂ (λ (ty from : ℕ). walk s ty from a.end) t c.subelements_start.ensures ∙ subelements-from s a.kind a.at a.end in

@@ -1,8 +1,6 @@
 -- `requests::subelements_start` meets its contract.
 -- Assumes nothing.
 use Rattle.requests.specs.Internal.{subelements_start}
-use borrow.Author.Rules.{rules}
-use Rattle.requests.proofs.event_start.Reads as event-start-reads
 use Rattle.requests.proofs.subelements_start.Goals as goal
 
 pub returns-in-Diagnostic : goal.returns-in-Diagnostic

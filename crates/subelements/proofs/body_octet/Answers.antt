@@ -20,5 +20,5 @@ returns-then-k-s c = rw (lt-ltb _ _ c.if-n-k.false) (search rules)
 
 pub returns-else-k-s : goal.returns-else-k-s
 unfolding body_octet if◌then◌else◌
-returns-else-k-s c =    let a = c.args in
+returns-else-k-s c = let a = c.args in
     rw (lt-ltb _ _ c.if-n-k.false) (sym (get_or-eq_default a.s.now 0 {n = a.at + a.k} (omega arith)))

@@ -1,10 +1,8 @@
 -- `subelements::walk` meets its contract. The invariant, `Walking`: what is left of the walk gives what the whole walk gives.
 -- Assumes nothing.
-use Prim.Native.Nat.{◌-◌}
 use mathlib.Core.Path.{refl}
 use native.Mathlib.Omega.{arith}
-use borrow.Author.Rules.{rules}
-use Rattle.subelements.proofs.Laws.{Walking, walking_start, walking_end, moves, refused_edge, passed_over, known, within, refused-length, refused_repeat, held}
+use Rattle.subelements.proofs.Laws.{walking_start, walking_end, moves, refused_edge, passed_over, known, within, refused-length, refused_repeat, held}
 use Rattle.subelements.proofs.walk.Goals as goal
 
 pub loop-w-init : goal.loop-w-init

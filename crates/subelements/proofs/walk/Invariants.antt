@@ -1,10 +1,7 @@
 -- `subelements::walk` meets its contract. The invariant, `Walking`: what is left of the walk gives what the whole walk gives.
 -- Assumes nothing.
 use Prim.Native.Nat.{◌-◌}
-use mathlib.Core.Path.{refl}
-use native.Mathlib.Omega.{arith}
-use borrow.Author.Rules.{rules}
-use Rattle.subelements.proofs.Laws.{Walking, walking_start, walking_end, moves, refused_edge, passed_over, known, within, refused-length, refused_repeat, held}
+use Rattle.subelements.proofs.Laws.{Walking}
 use Rattle.subelements.proofs.walk.Given as goal
 
 abbrev pub invariant-loop-w : goal.invariant-loop-w

@@ -1,14 +1,10 @@
 -- `subelements::walk_edges` meets its contract. The invariant is that of `walk`, of a type without a table, and so no filter.
 -- Assumes nothing.
 use Prim.Native.Nat.{ℕ, ◌-◌}
-use mathlib.Core.Path.{refl}
-use native.Mathlib.Omega.{arith}
-use borrow.Author.Rules.{rules}
 use Rattle.octets.specs.Refusals.{no_refusal}
 use Rattle.subelements.specs.declared.Subelements.{Subelements}
 use Rattle.subelements.specs.Subelements.{no_filter}
-use Rattle.subelements.proofs.Laws.{Walking, walking_start, walking_end, moves, refused_edge, passed_over}
-use Rattle.subelements.proofs.Tables.{no_length}
+use Rattle.subelements.proofs.Laws.{Walking}
 use Rattle.subelements.proofs.walk_edges.Given as goal
 
 abbrev pub edges : ℕ → ℕ → Subelements

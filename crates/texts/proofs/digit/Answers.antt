@@ -3,7 +3,6 @@
 use borrow.Author.Tests.{lt-ltb, le-ltb}
 use Rattle.laws.specs.Choice.{if◌then◌else◌}
 use Rattle.texts.specs.Text.{digit}
-use borrow.Author.Rules.{rules}
 use Rattle.texts.proofs.digit.Goals as goal
 
 pub returns-then-x-lt10 : goal.returns-then-x-lt10

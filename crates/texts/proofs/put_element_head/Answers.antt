@@ -2,7 +2,6 @@
 -- Assumes nothing.
 use Rattle.texts.specs.Text.{element_head}
 use Rattle.texts.proofs.PutLaws.{short, both}
-use borrow.Author.Rules.{rules}
 use Rattle.texts.proofs.put_element_head.Goals as goal
 
 pub returns : goal.returns

@@ -3,7 +3,6 @@
 use Rattle.texts.specs.Text.{frame_line}
 use Rattle.texts.proofs.PutLaws.{one, short, at_most, both}
 use native.Mathlib.Omega.{arith}
-use borrow.Author.Rules.{rules}
 use Rattle.texts.proofs.put_frame.Goals as goal
 
 pub returns : goal.returns

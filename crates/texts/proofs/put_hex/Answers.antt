@@ -3,7 +3,6 @@
 use Rattle.texts.specs.Text.{hex, hexed}
 use native.Mathlib.Omega.{arith}
 use lib.ListN.{length-append}
-use borrow.Author.Rules.{rules}
 use Rattle.texts.proofs.put_hex.Goals as goal
 
 pub returns-clause-buf_after : goal.returns-clause-buf_after

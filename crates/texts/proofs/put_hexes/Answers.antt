@@ -1,11 +1,6 @@
 -- `texts::put_hexes` meets its contract. The invariant, `Lining`: the octets before this one are written.
 -- Assumes nothing.
-use Prim.Native.Nat.{ℕ, ◌-◌, ◌+◌}
-use native.Mathlib.Omega.{arith}
-use lib.ListN.{length, length-take}
-use lib.Seq.{take-length}
-use Rattle.texts.specs.Text.{hexed}
-use Rattle.texts.proofs.PutLaws.{Lining, lining_start, lining_next, lining_end, short}
+use Rattle.texts.proofs.PutLaws.{lining_start, lining_next, short}
 use borrow.Author.Rules.{rules}
 use Rattle.texts.proofs.put_hexes.Goals as goal
 

@@ -1,12 +1,9 @@
 -- `texts::put_hexes` meets its contract. The invariant, `Lining`: the octets before this one are written.
 -- Assumes nothing.
 use Prim.Native.Nat.{ℕ, ◌-◌, ◌+◌}
-use native.Mathlib.Omega.{arith}
-use lib.ListN.{length, length-take}
-use lib.Seq.{take-length}
+use lib.ListN.{length}
 use Rattle.texts.specs.Text.{hexed}
-use Rattle.texts.proofs.PutLaws.{Lining, lining_start, lining_next, lining_end, short}
-use borrow.Author.Rules.{rules}
+use Rattle.texts.proofs.PutLaws.{Lining}
 use Rattle.texts.proofs.put_hexes.Given as goal
 
 abbrev pub invariant-loop-i : goal.invariant-loop-i

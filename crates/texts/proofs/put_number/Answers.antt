@@ -6,7 +6,6 @@ use mathlib.Core.List.{List}
 use native.Mathlib.Omega.{arith}
 use lib.ListN.{length, drop, set, length-set, length-drop}
 use lib.Seq.{take_all}
-use borrow.Author.Rules.{rules}
 use Rattle.texts.specs.Text.{decimal}
 use Rattle.texts.proofs.NumberLaws.{Spelling, spelling_last, spelling_next, spelling_all}
 use Rattle.texts.proofs.put_number.Goals as goal
@@ -19,7 +18,7 @@ unfolding decimal
 loop-i-init c = (refl, record { places = refl; within = omega arith; same = refl })
 
 pub returns-then-is_first : goal.returns-then-is_first
-returns-then-is_first c =    let i = c.loop-i.invariant in
+returns-then-is_first c = let i = c.loop-i.invariant in
     let t = c.loop-i.text in
     let at = c.loop-i.i - 1 in
     let d = c.last_digit.result in
@@ -29,9 +28,9 @@ returns-then-is_first c =    let i = c.loop-i.invariant in
     rw (← i.0, ← whole) c.put_two.ensures
 
 pub loop-i-preserved : goal.loop-i-preserved
-loop-i-preserved c =    let i = c.loop-i.invariant in
+loop-i-preserved c = let i = c.loop-i.invariant in
     (i.0, rw (c.last_digit.ensures, c.less_one-least.ensures) (spelling_next i.1 c.loop-i-test.true (sym c.is_first.ensures ∙ c.if-is_first.false)))
 
 pub returns : goal.returns
-returns c =    let i = c.loop-i.invariant in
+returns c = let i = c.loop-i.invariant in
     rw (← i.0, ← spelling_all i.1 (omega (arith, c.loop-i-test.false))) c.put_two-2.ensures

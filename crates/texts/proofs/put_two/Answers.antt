@@ -5,7 +5,6 @@ use native.Mathlib.Omega.{arith}
 use lib.ListN.{length-append}
 use Rattle.laws.proofs.Buffers.{put_at-short}
 use Rattle.texts.proofs.PutLaws.{put_two}
-use borrow.Author.Rules.{rules}
 use Rattle.texts.proofs.put_two.Goals as goal
 
 pub returns-then-buf-at : goal.returns-then-buf-at

@@ -2,7 +2,6 @@
 -- Assumes nothing.
 use Rattle.requesters.specs.Views.{view_answer}
 use Rattle.firmware.specs.Numbers.{reply_to}
-use borrow.Author.Rules.{rules}
 use Rattle.firmware.proofs.calls.reply_to.Goals as goal
 
 pub returns-in-Accepted : goal.returns-in-Accepted

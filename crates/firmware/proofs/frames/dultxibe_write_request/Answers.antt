@@ -1,6 +1,6 @@
 -- `firmware::frames::dultxibe_write_request` meets its contract.
 -- Assumes nothing.
-use mathlib.Core.Path.{◌≡◌, sym, ap, ◌∙◌}
+use mathlib.Core.Path.{◌≡◌, ap, ◌∙◌}
 use mathlib.Core.List.{map}
 use lib.ListN.{length, take, length-map}
 use Rattle.requests.specs.Elements.{element_capacity}
@@ -14,7 +14,7 @@ use borrow.Author.Rules.{rules}
 use Rattle.firmware.proofs.frames.dultxibe_write_request.Goals as goal
 
 pub returns : goal.returns
-returns c =    let a = c.args in
+returns c = let a = c.args in
     let given = c.elements_of in
     let all = map element_from a.q.elements in
     let asked : length a.q.elements ≡ element_capacity = search (rules, c.well_formed, length_mapped) in

@@ -1,9 +1,6 @@
 -- `octets::same_address` meets its contract. The invariant is `Comparing`.
 -- Assumes nothing.
-use Prim.Native.Nat.{◌-◌}
-use native.Mathlib.Omega.{arith}
-use borrow.Author.Rules.{rules}
-use Rattle.octets.proofs.AddressLaws.{Comparing, compare_start, compare_stops, compare_more, compare_done}
+use Rattle.octets.proofs.AddressLaws.{compare_stops, compare_more, compare_done}
 use Rattle.octets.proofs.addresses.same_address.Goals as goal
 
 pub returns-then-a-i : goal.returns-then-a-i

@@ -6,7 +6,6 @@ use native.Mathlib.Omega.{arith}
 use lib.ListN.{length, take, drop}
 use Rattle.laws.specs.Buffers.{wrote}
 use Rattle.laws.proofs.Buffers.{put_at-fits, put_at-short, copied, lent_tail}
-use borrow.Author.Rules.{rules}
 use Rattle.octets.proofs.buffers.put.Goals as goal
 
 pub returns-then-buf-at : goal.returns-then-buf-at
@@ -16,7 +15,7 @@ pub returns-then-buf-at-2 : goal.returns-then-buf-at-2
 returns-then-buf-at-2 c = sym (put_at-short _ _ _ (omega arith))
 
 pub returns : goal.returns
-returns c =    let a = c.args in
+returns c = let a = c.args in
     let s = a.buf.now in
     let o = a.o.now in
     sym

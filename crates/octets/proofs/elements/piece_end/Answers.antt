@@ -5,7 +5,6 @@ use native.Mathlib.Omega.{arith}
 use borrow.Author.Tests.{lt-ltb, le-ltb}
 use Rattle.laws.specs.Choice.{if◌then◌else◌}
 use Rattle.octets.specs.Elements.{piece_end}
-use borrow.Author.Rules.{rules}
 use Rattle.octets.proofs.elements.piece_end.Goals as goal
 
 pub returns-then-end-at : goal.returns-then-end-at
@@ -18,12 +17,12 @@ returns-then-end-at-lt2 c = let a = c.args in rw (lt-ltb a.end (a.at + 2) (omega
 
 pub returns-then-end-at-2 : goal.returns-then-end-at-2
 unfolding piece_end if◌then◌else◌
-returns-then-end-at-2 c =    let a = c.args in
+returns-then-end-at-2 c = let a = c.args in
     let n = c.size-n.result in
     rw (← c.size-n.ensures.0, le-ltb a.end (a.at + 2) (omega arith), lt-ltb a.end (a.at + 2 + n) (omega arith))
 
 pub returns : goal.returns
 unfolding piece_end if◌then◌else◌
-returns c =    let a = c.args in
+returns c = let a = c.args in
     let n = c.size-n.result in
     rw (← c.size-n.ensures.0, le-ltb a.end (a.at + 2) (omega arith), le-ltb a.end (a.at + 2 + n) (omega arith))

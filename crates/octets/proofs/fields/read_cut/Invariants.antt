@@ -1,13 +1,10 @@
 -- `octets::read_cut` meets its contract. The invariant: the first i octets are read.
 -- Assumes nothing.
-use Prim.Native.Nat.{◌+◌, ◌-◌, ◌≤◌}
-use mathlib.Core.Path.{◌≡◌, refl, sym, ap, ◌∙◌}
+use Prim.Native.Nat.{◌-◌, ◌≤◌}
+use mathlib.Core.Path.{◌≡◌}
 use mathlib.Core.List.{◌++◌}
-use native.Mathlib.Omega.{arith}
-use lib.ListN.{length, drop, length-set}
+use lib.ListN.{length, drop}
 use Rattle.octets.specs.Fields.{octets_at}
-use Rattle.octets.proofs.PlaceLaws.{octets_next, octets_all}
-use borrow.Author.Rules.{rules}
 use Rattle.octets.proofs.fields.read_cut.Given as goal
 
 abbrev pub invariant-loop-i : goal.invariant-loop-i

@@ -3,7 +3,6 @@
 use borrow.Author.Tests.{lt-ltb, le-ltb, eq-eqb, ne_eqb}
 use Rattle.laws.specs.Choice.{if◌then◌else◌}
 use Rattle.octets.specs.Frames.{frame_cause}
-use borrow.Author.Rules.{rules}
 use Rattle.octets.proofs.frames.frame_cause.Goals as goal
 
 pub returns-then-s-lt-SHORTEST_FRAME : goal.returns-then-s-lt-SHORTEST_FRAME
@@ -20,8 +19,8 @@ returns-then-octet-ne-CATEGORY c = rw (le-ltb _ _ c.if-s-lt-SHORTEST_FRAME.false
 
 pub returns-then-octet-action : goal.returns-then-octet-action
 unfolding frame_cause if◌then◌else◌
-returns-then-octet-action c =    rw (le-ltb _ _ c.if-s-lt-SHORTEST_FRAME.false, le-ltb _ _ c.if-s-gt-LONGEST_FRAME.false, ← c.octet.ensures, eq-eqb _ _ c.if-octet-ne-CATEGORY.false, ← c.octet-2.ensures, ne_eqb _ _ c.if-octet-action.true)
+returns-then-octet-action c = rw (le-ltb _ _ c.if-s-lt-SHORTEST_FRAME.false, le-ltb _ _ c.if-s-gt-LONGEST_FRAME.false, ← c.octet.ensures, eq-eqb _ _ c.if-octet-ne-CATEGORY.false, ← c.octet-2.ensures, ne_eqb _ _ c.if-octet-action.true)
 
 pub returns : goal.returns
 unfolding frame_cause if◌then◌else◌
-returns c =    rw (le-ltb _ _ c.if-s-lt-SHORTEST_FRAME.false, le-ltb _ _ c.if-s-gt-LONGEST_FRAME.false, ← c.octet.ensures, eq-eqb _ _ c.if-octet-ne-CATEGORY.false, ← c.octet-2.ensures, eq-eqb _ _ c.if-octet-action.false)
+returns c = rw (le-ltb _ _ c.if-s-lt-SHORTEST_FRAME.false, le-ltb _ _ c.if-s-gt-LONGEST_FRAME.false, ← c.octet.ensures, eq-eqb _ _ c.if-octet-ne-CATEGORY.false, ← c.octet-2.ensures, eq-eqb _ _ c.if-octet-action.false)

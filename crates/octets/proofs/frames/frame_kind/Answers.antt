@@ -3,7 +3,6 @@
 use borrow.Author.Tests.{eq-eqb, ne_eqb}
 use Rattle.laws.specs.Choice.{if◌then◌else◌}
 use Rattle.octets.specs.Frames.{frame_kind}
-use borrow.Author.Rules.{rules}
 use Rattle.octets.proofs.frames.frame_kind.Goals as goal
 
 pub returns-then-octet-diagnostic : goal.returns-then-octet-diagnostic

@@ -2,7 +2,6 @@
 -- Assumes nothing.
 use Rattle.laws.specs.Choice.{if◌then◌else◌}
 use Rattle.octets.specs.Times.{good_clock}
-use borrow.Author.Rules.{rules}
 use Rattle.octets.proofs.times.good_clock.Goals as goal
 
 pub returns-then-not-in_range : goal.returns-then-not-in_range

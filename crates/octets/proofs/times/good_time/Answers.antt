@@ -2,7 +2,6 @@
 -- Assumes nothing.
 use Rattle.laws.specs.Choice.{if◌then◌else◌}
 use Rattle.octets.specs.Times.{good_time}
-use borrow.Author.Rules.{rules}
 use Rattle.octets.proofs.times.good_time.Goals as goal
 
 pub returns-then-not-in_range : goal.returns-then-not-in_range

@@ -1,17 +1,10 @@
 -- `report_calls::diagnostic_reports::fill_diagnostics` meets its contract. The invariant, `Filling`: what is written, and what filling the rest gives,
 -- are what filling the whole gives.
 -- Assumes nothing.
-use Prim.Native.Nat.{◌-◌}
-use mathlib.Core.Path.{◌≡◌, ◌∙◌}
 use native.Mathlib.Omega.{arith}
-use lib.ListN.{length, take}
-use Rattle.requests.specs.Elements.{element_capacity}
 use borrow.Author.Rules.{rules}
-use borrow.Rule.Slice.PartMut.{same_len_mid}
 use Rattle.laws.proofs.Arrays.{length_mapped}
-use Rattle.model.specs.Diagnostics.{next_diagnostic}
-use Rattle.requesters.specs.Views.{left}
-use Rattle.report_calls.proofs.FillLaws.{Filling, filling_start, filling_length, filling_done, filling_full, filling_within, filling_next}
+use Rattle.report_calls.proofs.FillLaws.{filling_start, filling_done, filling_full, filling_within, filling_next}
 use Rattle.report_calls.proofs.ReportLaws.{next_report, no_report, report-octets}
 use Rattle.report_calls.proofs.diagnostic_reports.fill_diagnostics.Goals as goal
 
@@ -19,13 +12,13 @@ pub loop-i-init : goal.loop-i-init
 loop-i-init c = (search (rules, length_mapped), filling_start _ _ _)
 
 pub returns-then-n-eq0 : goal.returns-then-n-eq0
-returns-then-n-eq0 c =    filling_full c.loop-i.invariant.1 _ (next_report _ c.args.d.elements c.loop-i.i c.args.d.count (omega (arith, c.least-end.ensures, c.loop-i.invariant.0))) (report-octets _ _ _) _ _ c.put_diagnostic-n.ensures c.if-n-eq0.true
+returns-then-n-eq0 c = filling_full c.loop-i.invariant.1 _ (next_report _ c.args.d.elements c.loop-i.i c.args.d.count (omega (arith, c.least-end.ensures, c.loop-i.invariant.0))) (report-octets _ _ _) _ _ c.put_diagnostic-n.ensures c.if-n-eq0.true
 
 pub overflow_add-at : goal.overflow_add-at
-overflow_add-at c =    omega (arith, filling_within c.loop-i.invariant.1 _ (next_report _ c.args.d.elements c.loop-i.i c.args.d.count (omega (arith, c.least-end.ensures, c.loop-i.invariant.0))) (report-octets _ _ _) _ _ c.put_diagnostic-n.ensures c.if-n-eq0.false)
+overflow_add-at c = omega (arith, filling_within c.loop-i.invariant.1 _ (next_report _ c.args.d.elements c.loop-i.i c.args.d.count (omega (arith, c.least-end.ensures, c.loop-i.invariant.0))) (report-octets _ _ _) _ _ c.put_diagnostic-n.ensures c.if-n-eq0.false)
 
 pub loop-i-preserved : goal.loop-i-preserved
-loop-i-preserved c =    (c.loop-i.invariant.0, filling_next c.loop-i.invariant.1 _ (next_report _ c.args.d.elements c.loop-i.i c.args.d.count (omega (arith, c.least-end.ensures, c.loop-i.invariant.0))) (report-octets _ _ _) _ _ c.put_diagnostic-n.ensures c.if-n-eq0.false)
+loop-i-preserved c = (c.loop-i.invariant.0, filling_next c.loop-i.invariant.1 _ (next_report _ c.args.d.elements c.loop-i.i c.args.d.count (omega (arith, c.least-end.ensures, c.loop-i.invariant.0))) (report-octets _ _ _) _ _ c.put_diagnostic-n.ensures c.if-n-eq0.false)
 
 pub returns : goal.returns
-returns c =    filling_done c.loop-i.invariant.1 (no_report _ c.args.d.elements c.loop-i.i c.args.d.count (omega (arith, c.least-end.ensures, c.loop-i.invariant.0)))
+returns c = filling_done c.loop-i.invariant.1 (no_report _ c.args.d.elements c.loop-i.i c.args.d.count (omega (arith, c.least-end.ensures, c.loop-i.invariant.0)))

@@ -2,17 +2,12 @@
 -- are what filling the whole gives.
 -- Assumes nothing.
 use Prim.Native.Nat.{◌-◌}
-use mathlib.Core.Path.{◌≡◌, ◌∙◌}
-use native.Mathlib.Omega.{arith}
+use mathlib.Core.Path.{◌≡◌}
 use lib.ListN.{length, take}
 use Rattle.requests.specs.Elements.{element_capacity}
-use borrow.Author.Rules.{rules}
-use borrow.Rule.Slice.PartMut.{same_len_mid}
-use Rattle.laws.proofs.Arrays.{length_mapped}
 use Rattle.model.specs.Diagnostics.{next_diagnostic}
 use Rattle.requesters.specs.Views.{left}
-use Rattle.report_calls.proofs.FillLaws.{Filling, filling_start, filling_length, filling_done, filling_full, filling_within, filling_next}
-use Rattle.report_calls.proofs.ReportLaws.{next_report, no_report, report-octets}
+use Rattle.report_calls.proofs.FillLaws.{Filling}
 use Rattle.report_calls.proofs.diagnostic_reports.fill_diagnostics.Given as goal
 
 abbrev pub invariant-loop-i : goal.invariant-loop-i

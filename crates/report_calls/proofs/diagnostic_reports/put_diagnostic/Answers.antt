@@ -15,7 +15,6 @@ use Rattle.model.specs.declared.Treatment.{Treatment}
 use Rattle.model.specs.declared.Treatment.TheVariants.{Report, Incapable, Cancel, Identity}
 use Rattle.model.specs.Diagnostics.{diagnostic_report}
 use Rattle.report_calls.specs.Internal.{is_identity}
-use borrow.Author.Rules.{rules}
 use Rattle.report_calls.proofs.diagnostic_reports.put_diagnostic.Goals as goal
 
 module _ (i : List ℕ) (x : Diagnostic) where
@@ -34,11 +33,11 @@ module _ (i : List ℕ) (x : Diagnostic) where
   without-identity Report e = refl
 
 pub returns-then-is_identity : goal.returns-then-is_identity
-returns-then-is_identity c =    let a = c.args in
+returns-then-is_identity c = let a = c.args in
     c.put_list.ensures
     ∙ ap (λ (o : List ℕ). put_front o a.buf.now) (sym (with-identity (take a.len a.identity.now) a.x _ (sym (c.is_identity.ensures ∙ ap is_identity c.diagnostic_treatment.ensures) ∙ c.if-is_identity.true)))
 
 pub returns : goal.returns
-returns c =    let a = c.args in
+returns c = let a = c.args in
     c.put_plain.ensures
     ∙ ap (λ (o : List ℕ). put_front o a.buf.now) (sym (without-identity (take a.len a.identity.now) a.x _ (sym (c.is_identity.ensures ∙ ap is_identity c.diagnostic_treatment.ensures) ∙ c.if-is_identity.false)))

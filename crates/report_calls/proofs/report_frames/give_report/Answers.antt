@@ -4,7 +4,6 @@ use borrow.Author.Tests.{lt-ltb, le-ltb}
 use Rattle.laws.specs.Choice.{if◌then◌else◌}
 use Rattle.model.specs.Stations.{give_kind, give_report}
 use Rattle.requesters.specs.Views.{view_answer}
-use borrow.Author.Rules.{rules}
 use Rattle.report_calls.proofs.report_frames.give_report.Goals as goal
 
 pub returns-then-buf-lt-REPORT_BUFFER : goal.returns-then-buf-lt-REPORT_BUFFER

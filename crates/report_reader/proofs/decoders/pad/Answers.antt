@@ -1,9 +1,7 @@
 -- `report_reader::decoders::pad` meets its contract.
 -- Assumes nothing.
 use mathlib.Core.Path.{refl}
-use native.Mathlib.Omega.{arith}
 use Rattle.report_reader.proofs.DecoderLaws.{first-padded}
-use borrow.Author.Rules.{rules}
 use Rattle.report_reader.proofs.decoders.pad.Goals as goal
 
 pub returns : goal.returns

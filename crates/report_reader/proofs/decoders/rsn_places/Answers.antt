@@ -1,6 +1,6 @@
 -- `report_reader::decoders::rsn_places` meets its contract: as many octets are copied as there are places.
 -- Assumes nothing.
-use mathlib.Core.Path.{◌≡◌, refl, sym, ap, ◌∙◌}
+use mathlib.Core.Path.{◌≡◌, refl, ap, ◌∙◌}
 use native.Mathlib.Omega.{arith}
 use lib.ListN.{length}
 use Rattle.octets.specs.Fields.{octets_at}
@@ -13,11 +13,11 @@ unfolding octets_at
 pad-requires c = refl
 
 pub copy_at-requires : goal.copy_at-requires
-copy_at-requires c =    let l : length c.pad.new.blank ≡ 22 = search rules in
+copy_at-requires c = let l : length c.pad.new.blank ≡ 22 = search rules in
     first-length _ _ _ 22 c.whole_of.ensures l
 
 pub returns : goal.returns
-returns c =    let l : length c.pad.new.blank ≡ 22 = search rules in
+returns c = let l : length c.pad.new.blank ≡ 22 = search rules in
     let o = c.args.element.now in
     let w = c.whole_of.ensures ∙ ap (octets_at o 0) l in
     c.copy_at.ensures ∙ ap (λ s. octets_at s 0 22) w ∙ first-octets o 22 22 0 (omega arith)

@@ -1,7 +1,6 @@
 -- `report_reader::decoders::rsna_in` meets its contract: its fields up to the RSN element are read of as many octets as they have at most.
 -- Assumes nothing.
-use mathlib.Core.Path.{◌≡◌, refl, sym, ap, ◌∙◌}
-use native.Mathlib.Omega.{arith}
+use mathlib.Core.Path.{◌≡◌, refl, ap, ◌∙◌}
 use lib.ListN.{length}
 use Rattle.octets.specs.Fields.{octets_at}
 use Rattle.events.specs.RsnaEvents.{rsn_element_of}
@@ -14,7 +13,7 @@ unfolding octets_at
 pad-requires c = refl
 
 pub returns : goal.returns
-returns c =    let l : length c.pad.new.blank ≡ 19 = search rules in
+returns c = let l : length c.pad.new.blank ≡ 19 = search rules in
     let a = c.args in
     let is = c.body_in-body.ensures in
     let fields = c.whole_of-fields.ensures ∙ ap (octets_at _ 0) l ∙ ap (λ s. octets_at s 0 19) is in

@@ -1,7 +1,6 @@
 -- `report_reader::decoders::times_in` meets its contract: they are read of as many octets as they have.
 -- Assumes nothing.
-use Prim.Native.Nat.{◌≤◌}
-use mathlib.Core.Path.{◌≡◌, refl, sym, ap, ◌∙◌}
+use mathlib.Core.Path.{◌≡◌, refl, ap, ◌∙◌}
 use native.Mathlib.Omega.{arith}
 use lib.ListN.{length}
 use borrow.Author.Tests.{ne_eqb}
@@ -18,12 +17,12 @@ unfolding octets_at
 pad-requires c = refl
 
 pub draft_times-requires : goal.draft_times-requires
-draft_times-requires c =    let l : length c.pad.new.blank ≡ 9 = search rules in
+draft_times-requires c = let l : length c.pad.new.blank ≡ 9 = search rules in
     first-length _ _ _ 9 c.whole_of.ensures l
 
 pub returns-then-form-eq-DRAFT : goal.returns-then-form-eq-DRAFT
 unfolding times_in if◌then◌else◌
-returns-then-form-eq-DRAFT c =    let l : length c.pad.new.blank ≡ 9 = search rules in
+returns-then-form-eq-DRAFT c = let l : length c.pad.new.blank ≡ 9 = search rules in
     let o = c.args.o.now in
     let w = c.whole_of.ensures ∙ ap (octets_at o 0) l in
     rw c.if-form-eq-DRAFT.true (c.draft_times.ensures ∙ ap (λ s. draft_times (time_at s 0)) w ∙ ap draft_times (first-octets o 9 9 0 (omega arith)))
@@ -33,12 +32,12 @@ unfolding octets_at
 pad-requires-2 c = refl
 
 pub published_times-requires : goal.published_times-requires
-published_times-requires c =    let l : length c.pad-2.new.blank ≡ 23 = search rules in
+published_times-requires c = let l : length c.pad-2.new.blank ≡ 23 = search rules in
     first-length _ _ _ 23 c.whole_of-2.ensures l
 
 pub returns : goal.returns
 unfolding times_in if◌then◌else◌
-returns c =    let l : length c.pad-2.new.blank ≡ 23 = search rules in
+returns c = let l : length c.pad-2.new.blank ≡ 23 = search rules in
     let o = c.args.o.now in
     let w = c.whole_of-2.ensures ∙ ap (octets_at o 0) l in
     rw (ne_eqb _ _ c.if-form-eq-DRAFT.false)

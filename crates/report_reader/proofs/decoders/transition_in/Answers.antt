@@ -1,10 +1,8 @@
 -- `report_reader::decoders::transition_in` meets its contract: its body is read of as many octets as it has.
 -- Assumes nothing.
-use mathlib.Core.Path.{◌≡◌, refl, sym, ap, ◌∙◌}
-use native.Mathlib.Omega.{arith}
+use mathlib.Core.Path.{◌≡◌, refl, ap, ◌∙◌}
 use lib.ListN.{length}
 use Rattle.octets.specs.Fields.{octets_at}
-use Rattle.report_reader.specs.Decoders.{body_in}
 use Rattle.report_reader.proofs.DecoderLaws.{transition-read}
 use borrow.Author.Rules.{rules}
 use Rattle.report_reader.proofs.decoders.transition_in.Goals as goal
@@ -14,7 +12,7 @@ unfolding octets_at
 pad-requires c = refl
 
 pub returns : goal.returns
-returns c =    let l : length c.pad.new.blank ≡ 21 = search rules in
+returns c = let l : length c.pad.new.blank ≡ 21 = search rules in
     let a = c.args in
     let body = c.whole_of-body.ensures ∙ ap (octets_at _ 0) l ∙ ap (λ s. octets_at s 0 21) c.body_in-rest.ensures in
     rw (c.source_of.ensures, c.target_of.ensures, c.took_of.ensures, c.reason_of.ensures, c.result_of.ensures, c.signals_of.ensures)

@@ -3,7 +3,6 @@
 use mathlib.Core.Path.{sym}
 use native.Mathlib.Nat.{zero-add}
 use lib.ListN.{length}
-use lib.Seq.{length-take-le}
 use Rattle.octets.proofs.PlaceLaws.{octets_part}
 use Rattle.report_reader.proofs.decoders.whole_of.Goals as goal
 

@@ -2,10 +2,9 @@
 -- Assumes nothing.
 use Prim.Native.Nat.{ℕ, ◌+◌, ◌≤◌, ◌<◌, ◌-◌}
 use mathlib.Core.Path.{◌≡◌, sym, ◌∙◌, ap}
-use mathlib.Core.Bool.{false}
 use mathlib.Core.List.{List, map}
 use native.Mathlib.Omega.{arith}
-use lib.ListN.{length, get_or, take, drop, length-map, length-take, get_or-map}
+use lib.ListN.{length, get_or, take, length-map, length-take, get_or-map}
 use lib.Seq.{get_or-take}
 use Rattle.requests.specs.declared.Element.{Element}
 use Rattle.requests.specs.Elements.{element_capacity, past_elements}
@@ -24,14 +23,14 @@ module _ (asked : List Element) (n : ℕ) (h : n ≤ length asked) where
   one i k = get_or-map diagnostic_of (take n asked) i past_elements ∙ ap diagnostic_of (get_or-take n asked i past_elements k)
 
 pub loop-i-init : goal.loop-i-init
-loop-i-init c =    let asked = c.args.q.elements in
+loop-i-init c = let asked = c.args.q.elements in
     let n = c.least-i.result in
     let eight : length asked ≡ element_capacity = search (rules, length_mapped) in
     (omega arith, omega (arith, c.least-i.ensures), eight, cancel_none _ n (omega (arith, size asked n (omega (arith, c.least-i.ensures)))))
 
 pub returns-then-is_cancel : goal.returns-then-is_cancel
 unfolding diagnostics_of
-returns-then-is_cancel c =    let l = c.loop-i in
+returns-then-is_cancel c = let l = c.loop-i in
     let q = c.args.q in
     let n = c.least-i.result in
     let j = l.i - 1 in
@@ -40,7 +39,7 @@ returns-then-is_cancel c =    let l = c.loop-i in
     ∙ ap (λ (es : List Element). holds_cancel (map diagnostic_of es)) (take_within q.elements 8 n l.invariant.2 q.count c.least-i.ensures)
 
 pub loop-i-preserved : goal.loop-i-preserved
-loop-i-preserved c =    let l = c.loop-i in
+loop-i-preserved c = let l = c.loop-i in
     let q = c.args.q in
     let n = c.least-i.result in
     let j = l.i - 1 in
@@ -50,7 +49,7 @@ loop-i-preserved c =    let l = c.loop-i in
 
 pub returns : goal.returns
 unfolding diagnostics_of
-returns c =    let l = c.loop-i in
+returns c = let l = c.loop-i in
     let q = c.args.q in
     let none : l.i ≡ 0 = omega arith in
     (rw none at l.invariant.3) ∙ ap (λ (es : List Element). holds_cancel (map diagnostic_of es)) (take_within q.elements 8 c.least-i.result l.invariant.2 q.count c.least-i.ensures)

@@ -1,7 +1,6 @@
 -- `requesters::diagnostic_requests::cancels_or_opens` meets its contract.
 -- Assumes nothing.
 use Rattle.requesters.specs.Internal.{renews_diagnostics}
-use borrow.Author.Rules.{rules}
 use Rattle.requesters.proofs.diagnostic_requests.cancels_or_opens.Goals as goal
 
 pub returns-then-asks_cancel : goal.returns-then-asks_cancel

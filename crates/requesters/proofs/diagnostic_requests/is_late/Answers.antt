@@ -1,7 +1,6 @@
 -- `requesters::diagnostic_requests::is_late` meets its contract.
 -- Assumes nothing.
 use Rattle.model.specs.Diagnostics.{is_late}
-use borrow.Author.Rules.{rules}
 use Rattle.requesters.proofs.diagnostic_requests.is_late.Goals as goal
 
 pub returns : goal.returns

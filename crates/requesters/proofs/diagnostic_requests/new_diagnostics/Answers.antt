@@ -3,7 +3,6 @@
 use Rattle.laws.specs.Choice.{if◌then◌else◌}
 use Rattle.requesters.specs.Views.{view_diagnostics}
 use Rattle.requesters.specs.Internal.{new_diagnostics}
-use borrow.Author.Rules.{rules}
 use Rattle.requesters.proofs.diagnostic_requests.new_diagnostics.Goals as goal
 
 pub returns-then-asks_cancel : goal.returns-then-asks_cancel

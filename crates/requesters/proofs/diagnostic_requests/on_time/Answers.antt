@@ -4,7 +4,6 @@ use borrow.Author.Tests.{not-true, not-false}
 use Rattle.laws.specs.Choice.{if◌then◌else◌}
 use Rattle.requesters.specs.Views.{view_diagnostics}
 use Rattle.model.specs.Diagnostics.{drop_late}
-use borrow.Author.Rules.{rules}
 use Rattle.requesters.proofs.diagnostic_requests.on_time.Goals as goal
 
 pub returns-then-not-d : goal.returns-then-not-d
@@ -13,4 +12,4 @@ returns-then-not-d c = rw (not-true c.args.d.outstanding c.if-not-d.true)
 
 pub returns : goal.returns
 unfolding view_diagnostics drop_late if◌then◌else◌
-returns c =    let e = rw c.kept.ensures.0 at c.request_of.ensures in rw (not-false c.args.d.outstanding c.if-not-d.false) e
+returns c = let e = rw c.kept.ensures.0 at c.request_of.ensures in rw (not-false c.args.d.outstanding c.if-not-d.false) e

@@ -1,9 +1,7 @@
 -- `requesters::diagnostic_requests::renews_diagnostics` meets its contract.
 -- Assumes nothing.
-use mathlib.Core.Path.{sym, ap, ◌∙◌}
-use borrow.Author.Tests.{not-true, not-false}
+use borrow.Author.Tests.{not-false}
 use Rattle.requesters.specs.Internal.{renews_diagnostics}
-use borrow.Author.Rules.{rules}
 use Rattle.requesters.proofs.diagnostic_requests.renews_diagnostics.Goals as goal
 
 pub returns-in-Event : goal.returns-in-Event

@@ -13,4 +13,4 @@ use Rattle.requesters.proofs.diagnostic_requests.request_of.Goals as goal
 
 pub returns : goal.returns
 unfolding view_diagnostics
-returns c =    let a = c.args in let eight : length a.k.elements ≡ element_capacity = search (rules, length_mapped) in unless-over a.dialog a.accepted.0 (take a.k.count a.k.elements) a.k.count (length-take-le a.k.count a.k.elements (omega arith))
+returns c = let a = c.args in let eight : length a.k.elements ≡ element_capacity = search (rules, length_mapped) in unless-over a.dialog a.accepted.0 (take a.k.count a.k.elements) a.k.count (length-take-le a.k.count a.k.elements (omega arith))

@@ -1,7 +1,6 @@
 -- `station::Station::explain` meets its contract.
 -- Assumes nothing.
 use Rattle.station.specs.Views.{view}
-use borrow.Author.Rules.{rules}
 use Rattle.station.proofs.Station.explain.Goals as goal
 
 pub returns : goal.returns

@@ -5,11 +5,10 @@ use mathlib.Core.List.{[]}
 use Rattle.model.specs.Stations.{frame_call, act, reading_of, step}
 use Rattle.station.specs.declared.Station.{Station}
 use Rattle.station.specs.Views.{view_outcome, changed_outcome}
-use borrow.Author.Rules.{rules}
 use Rattle.station.proofs.Station.framed.Goals as goal
 
 pub returns : goal.returns
 unfolding step act reading_of frame_call
-returns c =    sym (ap (λ (g : Station). view_outcome (changed_outcome g c.take_request.result) []) c.ticked-g.ensures.value)
+returns c = sym (ap (λ (g : Station). view_outcome (changed_outcome g c.take_request.result) []) c.ticked-g.ensures.value)
     ∙ c.take_request.ensures
     ∙ rw (c.ticked-g.ensures.result_value, c.read_request.ensures)

@@ -13,16 +13,11 @@ use Rattle.station.proofs.CallLaws.{call-served}
 use Rattle.station.proofs.RequesterLaws.{place_ticked}
 use Rattle.station.proofs.StationLaws.{view_ticked}
 use borrow.Author.Rules.{rules}
-use Rattle.octets.proofs.least.Reads as least-reads
-use Rattle.station.proofs.requester_lists.find.Reads as find-reads
-use Rattle.station.proofs.requester_lists.tick_requesters.Reads as tick-requesters-reads
-use Rattle.station.proofs.timers.advanced.Reads as advanced-reads
-use Rattle.station.proofs.reports.serve_report.Reads as serve-report-reads
 use Rattle.station.proofs.Station.reported.Goals as goal
 
 pub returns : goal.returns
 unfolding step act reading_of report_call view view_outcome
-returns c =    let a = c.args in
+returns c = let a = c.args in
     let at = c.advanced-timer.ensures in
     let rs = c.tick_requesters-requesters.result in
     let drops = rw at at c.tick_requesters-requesters.ensures in

@@ -5,7 +5,6 @@ use mathlib.Core.List.{[]}
 use Rattle.model.specs.Model.{Station, accepted}
 use Rattle.model.specs.Stations.{result, act, reading_of, step}
 use Rattle.station.proofs.StationLaws.{accepted-view}
-use borrow.Author.Rules.{rules}
 use Rattle.station.proofs.Station.tick.Goals as goal
 
 pub returns : goal.returns

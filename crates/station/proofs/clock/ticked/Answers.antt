@@ -1,7 +1,6 @@
 -- `station::clock::ticked` meets its contract.
 -- Assumes nothing.
 use Rattle.station.proofs.StationLaws.{view_ticked}
-use borrow.Author.Rules.{rules}
 use Rattle.station.proofs.clock.ticked.Goals as goal
 
 pub returns-clause-result_value : goal.returns-clause-result_value

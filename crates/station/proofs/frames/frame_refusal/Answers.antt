@@ -2,7 +2,6 @@
 -- Assumes nothing.
 use Rattle.laws.specs.Choice.{if◌then◌else◌}
 use Rattle.station.specs.Internal.{frame_refusal}
-use borrow.Author.Rules.{rules}
 use Rattle.station.proofs.frames.frame_refusal.Goals as goal
 
 pub returns-then-is_group : goal.returns-then-is_group

@@ -1,6 +1,5 @@
 -- `station::frames::logged_in` meets its contract.
 -- Assumes nothing.
-use native.Mathlib.Omega.{arith}
 use mathlib.Core.Path.{◌≡◌, sym, ◌∙◌}
 use Rattle.events.specs.Log.{log_capacity}
 use Rattle.laws.proofs.Arrays.{length_mapped}
@@ -10,4 +9,4 @@ use borrow.Author.Rules.{rules}
 use Rattle.station.proofs.frames.logged_in.Goals as goal
 
 pub returns : goal.returns
-returns c =    let size : length c.args.log.entries ≡ log_capacity = search (rules, length_mapped) in c.least.ensures ∙ sym (length-logged c.args.log size)
+returns c = let size : length c.args.log.entries ≡ log_capacity = search (rules, length_mapped) in c.least.ensures ∙ sym (length-logged c.args.log size)

@@ -2,7 +2,6 @@
 -- Assumes nothing.
 use Rattle.requesters.specs.Views.{view_answer}
 use Rattle.station.specs.Views.{view_outcome}
-use borrow.Author.Rules.{rules}
 use Rattle.station.proofs.outcomes.refused_with.Goals as goal
 
 pub returns : goal.returns

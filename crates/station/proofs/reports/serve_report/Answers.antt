@@ -2,9 +2,6 @@
 -- Assumes nothing.
 use Rattle.laws.specs.Choice.{if◌then◌else◌}
 use Rattle.station.specs.Internal.{serve_if}
-use borrow.Author.Rules.{rules}
-use Rattle.report_calls.proofs.give_report.Reads as give-report-reads
-use Rattle.station.proofs.outcomes.left_alone.Reads as left-alone-reads
 use Rattle.station.proofs.reports.serve_report.Goals as goal
 
 pub returns-then-not-found : goal.returns-then-not-found

@@ -4,7 +4,6 @@ use Rattle.laws.specs.Choice.{if◌then◌else◌}
 use Rattle.events.specs.Log.{logged}
 use Rattle.requesters.specs.Views.{view_identity}
 use Rattle.station.specs.Views.{view_timer, view}
-use borrow.Author.Rules.{rules}
 use Rattle.station.proofs.setup.nobody.Goals as goal
 
 pub returns : goal.returns

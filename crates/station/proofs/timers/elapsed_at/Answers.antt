@@ -4,7 +4,6 @@ use borrow.Author.Tests.{not-true, not-false}
 use Rattle.laws.specs.Choice.{if◌then◌else◌}
 use Rattle.model.specs.Clocks.{elapsed_at}
 use Rattle.station.specs.Views.{view_timer}
-use borrow.Author.Rules.{rules}
 use Rattle.station.proofs.timers.elapsed_at.Goals as goal
 
 pub returns-then-not-t : goal.returns-then-not-t

@@ -4,12 +4,11 @@ use Prim.Native.Nat.{◌+◌}
 use native.Mathlib.Omega.{arith}
 use lib.ListN.{get_or-eq_default}
 use Rattle.traces.specs.Records.{milliseconds_at}
-use borrow.Author.Rules.{rules}
 use Rattle.traces.proofs.calls.milliseconds_at.Goals as goal
 
 pub returns-then-s-at : goal.returns-then-s-at
 unfolding milliseconds_at
-returns-then-s-at c =    let s = c.args.s.now in let at = c.args.at in
+returns-then-s-at c = let s = c.args.s.now in let at = c.args.at in
     rw (get_or-eq_default s 0 {n = at} c.if-s-at.true, get_or-eq_default s 0 {n = at + 1} (omega arith), get_or-eq_default s 0 {n = at + 2} (omega arith), get_or-eq_default s 0 {n = at + 2 + 1} (omega arith))
 
 pub returns : goal.returns

@@ -1,7 +1,6 @@
 -- `traces::calls::move_at` meets its contract.
 -- Assumes nothing.
 use Rattle.traces.specs.Records.{move_fields}
-use borrow.Author.Rules.{rules}
 use Rattle.traces.proofs.calls.move_at.Goals as goal
 
 pub returns : goal.returns

@@ -1,7 +1,6 @@
 -- `traces::calls::peer_link_at` meets its contract.
 -- Assumes nothing.
 use Rattle.traces.specs.Records.{peer_link_fields}
-use borrow.Author.Rules.{rules}
 use Rattle.traces.proofs.calls.peer_link_at.Goals as goal
 
 pub returns : goal.returns

@@ -1,13 +1,10 @@
 -- `traces::calls::read_requesters` meets its contract: the first i requesters are read.
 -- Assumes nothing.
 use Prim.Native.Nat.{◌+◌, ◌-◌, ◌*◌, ◌≤◌}
-use mathlib.Core.Path.{◌≡◌, refl, ◌∙◌}
+use mathlib.Core.Path.{◌≡◌}
 use mathlib.Core.List.{◌++◌}
-use native.Mathlib.Omega.{arith}
-use lib.ListN.{length, drop, length-set}
+use lib.ListN.{length, drop}
 use Rattle.traces.specs.Records.{requesters_at}
-use Rattle.traces.proofs.ListLaws.{requesters_next, requesters_all}
-use borrow.Author.Rules.{rules}
 use Rattle.traces.proofs.calls.read_requesters.Given as goal
 
 abbrev pub invariant-loop-i : goal.invariant-loop-i

@@ -1,7 +1,6 @@
 -- `traces::calls::rsna_call_at` meets its contract.
 -- Assumes nothing.
 use Rattle.traces.specs.Records.{rsna_fields}
-use borrow.Author.Rules.{rules}
 use Rattle.traces.proofs.calls.rsna_call_at.Goals as goal
 
 pub returns : goal.returns

@@ -1,8 +1,6 @@
 -- `traces::calls::setup_at` meets its contract.
 -- Assumes nothing.
-use native.Mathlib.Omega.{arith}
 use Rattle.traces.specs.Records.{setup_fields}
-use borrow.Author.Rules.{rules}
 use Rattle.traces.proofs.calls.setup_at.Goals as goal
 
 pub returns : goal.returns

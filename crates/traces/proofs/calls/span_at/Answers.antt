@@ -2,7 +2,6 @@
 -- Assumes nothing.
 use native.Mathlib.Omega.{arith}
 use Rattle.traces.specs.Records.{span_at}
-use borrow.Author.Rules.{rules}
 use Rattle.traces.proofs.calls.span_at.Goals as goal
 
 pub returns : goal.returns

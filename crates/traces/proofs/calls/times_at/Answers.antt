@@ -1,7 +1,6 @@
 -- `traces::calls::times_at` meets its contract.
 -- Assumes nothing.
 use Rattle.traces.specs.Records.{times_at}
-use borrow.Author.Rules.{rules}
 use Rattle.traces.proofs.calls.times_at.Goals as goal
 
 pub returns : goal.returns

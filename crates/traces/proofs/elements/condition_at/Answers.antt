@@ -1,7 +1,6 @@
 -- `traces::elements::condition_at` meets its contract.
 -- Assumes nothing.
 use Rattle.traces.specs.Elements.{traced_condition}
-use borrow.Author.Rules.{rules}
 use Rattle.traces.proofs.elements.condition_at.Goals as goal
 
 pub returns : goal.returns

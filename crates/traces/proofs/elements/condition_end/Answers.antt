@@ -3,7 +3,6 @@
 use borrow.Author.Tests.{eq-eqb, ne_eqb, lt-ltb, le-ltb}
 use Rattle.laws.specs.Choice.{if◌then◌else◌}
 use Rattle.traces.specs.Elements.{condition_end}
-use borrow.Author.Rules.{rules}
 use Rattle.traces.proofs.elements.condition_end.Goals as goal
 
 pub returns-then-id-least : goal.returns-then-id-least

@@ -3,7 +3,6 @@
 use borrow.Author.Tests.{lt-ltb, le-ltb}
 use Rattle.laws.specs.Choice.{if◌then◌else◌}
 use Rattle.traces.specs.Elements.{condition_table}
-use borrow.Author.Rules.{rules}
 use Rattle.traces.proofs.elements.condition_table.Goals as goal
 
 pub returns-then-ty-lt-TABLES : goal.returns-then-ty-lt-TABLES

@@ -1,12 +1,9 @@
 -- `traces::elements::conditions_at` meets its contract: the conditions left give what all of them do.
 -- Assumes nothing.
-use Prim.Native.Nat.{ℕ, ◌+◌, ◌-◌, ◌≤◌}
-use mathlib.Core.Path.{◌≡◌, sym, ap, ◌∙◌}
-use native.Mathlib.Omega.{arith}
+use Prim.Native.Nat.{◌-◌, ◌≤◌}
+use mathlib.Core.Path.{◌≡◌}
 use lib.ListN.{length}
-use Rattle.traces.specs.Elements.{with_condition, more_conditions, started_conditions, conditions_at}
-use Rattle.traces.proofs.WalkLaws.{condition-within, conditions_next, conditions_done}
-use borrow.Author.Rules.{rules}
+use Rattle.traces.specs.Elements.{more_conditions, conditions_at}
 use Rattle.traces.proofs.elements.conditions_at.Given as goal
 
 abbrev pub invariant-loop-i : goal.invariant-loop-i

@@ -5,7 +5,6 @@ use borrow.Author.Tests.{eq-eqb, ne_eqb}
 use Rattle.laws.specs.Choice.{if◌then◌else◌}
 use Rattle.traces.specs.Elements.{traced_element_at}
 use Rattle.traces.proofs.WalkLaws.{behind-past, behind-within}
-use borrow.Author.Rules.{rules}
 use Rattle.traces.proofs.elements.element_at.Goals as goal
 
 pub returns-then-s-at : goal.returns-then-s-at

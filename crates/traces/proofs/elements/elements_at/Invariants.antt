@@ -1,11 +1,8 @@
 -- `traces::elements::elements_at` meets its contract: the elements left give what all of them do.
 -- Assumes nothing.
-use Prim.Native.Nat.{ℕ, ◌+◌, ◌-◌, ◌≤◌}
-use mathlib.Core.Path.{◌≡◌, sym, ap, ◌∙◌}
-use native.Mathlib.Omega.{arith}
-use Rattle.traces.specs.Elements.{more_traced, elements_at, started_trace}
-use Rattle.traces.proofs.WalkLaws.{elements_next, elements-done}
-use borrow.Author.Rules.{rules}
+use Prim.Native.Nat.{◌-◌, ◌≤◌}
+use mathlib.Core.Path.{◌≡◌}
+use Rattle.traces.specs.Elements.{more_traced, elements_at}
 use Rattle.traces.proofs.elements.elements_at.Given as goal
 
 abbrev pub invariant-loop-i : goal.invariant-loop-i

@@ -3,7 +3,6 @@
 use Rattle.laws.specs.Choice.{if◌then◌else◌}
 use Rattle.subelements.specs.Subelements.{length_of}
 use Rattle.subelements.proofs.Tables.{length_small}
-use borrow.Author.Rules.{rules}
 use Rattle.traces.proofs.elements.traced_length.Goals as goal
 
 pub returns : goal.returns

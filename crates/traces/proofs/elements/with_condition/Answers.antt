@@ -1,7 +1,6 @@
 -- `traces::elements::with_condition` meets its contract.
 -- Assumes nothing.
 use Rattle.traces.specs.Elements.{with_condition}
-use borrow.Author.Rules.{rules}
 use Rattle.traces.proofs.elements.with_condition.Goals as goal
 
 pub returns : goal.returns

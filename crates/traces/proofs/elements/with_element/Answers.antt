@@ -1,7 +1,6 @@
 -- `traces::elements::with_element` meets its contract.
 -- Assumes nothing.
 use Rattle.traces.specs.Elements.{with_traced}
-use borrow.Author.Rules.{rules}
 use Rattle.traces.proofs.elements.with_element.Goals as goal
 
 pub returns : goal.returns

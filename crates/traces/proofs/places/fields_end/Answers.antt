@@ -3,7 +3,6 @@
 use borrow.Author.Tests.{ne_eqb}
 use Rattle.laws.specs.Choice.{if◌then◌else◌}
 use Rattle.traces.specs.Records.{fields_end}
-use borrow.Author.Rules.{rules}
 use Rattle.traces.proofs.places.fields_end.Goals as goal
 
 pub returns-in-0 : goal.returns-in-0
@@ -56,5 +55,5 @@ returns-in-18 c = rw (c.in-18.is, ← c.octets_end-in-18.ensures) c.behind-in-18
 
 pub returns-in_default : goal.returns-in_default
 unfolding fields_end if◌then◌else◌
-returns-in_default c =    let r = c.in_default.in_default-own.rest in
+returns-in_default c = let r = c.in_default.in_default-own.rest in
     rw (ne_eqb _ 0 r.0.0.0.0.0.0.0.0.0.0.0.1, ne_eqb _ 1 r.0.0.0.0.0.0.0.0.0.0.1, ne_eqb _ 2 r.0.0.0.0.0.0.0.0.0.1, ne_eqb _ 3 r.0.0.0.0.0.0.0.0.1, ne_eqb _ 4 r.0.0.0.0.0.0.0.1, ne_eqb _ 5 r.0.0.0.0.0.0.1, ne_eqb _ 6 r.0.0.0.0.0.1, ne_eqb _ 7 r.0.0.0.0.1, ne_eqb _ 8 r.0.0.0.1, ne_eqb _ 16 r.0.0.1, ne_eqb _ 17 r.0.1, ne_eqb _ 18 r.1)

@@ -1,7 +1,6 @@
 -- `traces::places::list_end` meets its contract.
 -- Assumes nothing.
 use Rattle.traces.specs.Places.{list_end}
-use borrow.Author.Rules.{rules}
 use Rattle.traces.proofs.places.list_end.Goals as goal
 
 pub returns : goal.returns

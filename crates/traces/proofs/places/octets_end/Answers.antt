@@ -2,7 +2,6 @@
 -- Assumes nothing.
 use Rattle.laws.specs.Choice.{if◌then◌else◌}
 use Rattle.traces.specs.Places.{octets_end}
-use borrow.Author.Rules.{rules}
 use Rattle.traces.proofs.places.octets_end.Goals as goal
 
 pub returns-then-bad_length : goal.returns-then-bad_length
@@ -11,4 +10,4 @@ returns-then-bad_length c = rw (← c.bad_length.ensures, c.if-bad_length.true)
 
 pub returns : goal.returns
 unfolding octets_end if◌then◌else◌
-returns c =    rw (← c.bad_length.ensures, c.if-bad_length.false, ← c.pair_at.ensures, ← c.behind.ensures) c.behind-2.ensures
+returns c = rw (← c.bad_length.ensures, c.if-bad_length.false, ← c.pair_at.ensures, ← c.behind.ensures) c.behind-2.ensures

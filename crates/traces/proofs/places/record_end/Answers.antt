@@ -3,7 +3,6 @@
 use borrow.Author.Tests.{le-leb, lt-leb}
 use Rattle.laws.specs.Choice.{if◌then◌else◌}
 use Rattle.traces.specs.Records.{record_end}
-use borrow.Author.Rules.{rules}
 use Rattle.traces.proofs.places.record_end.Goals as goal
 
 pub returns-then-s-at : goal.returns-then-s-at

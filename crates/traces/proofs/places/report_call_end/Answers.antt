@@ -3,7 +3,6 @@
 use borrow.Author.Tests.{lt-ltb, le-ltb}
 use Rattle.laws.specs.Choice.{if◌then◌else◌}
 use Rattle.traces.specs.Records.{report_call_end}
-use borrow.Author.Rules.{rules}
 use Rattle.traces.proofs.places.report_call_end.Goals as goal
 
 pub returns-then-octet-gt1 : goal.returns-then-octet-gt1
@@ -16,4 +15,4 @@ returns-then-bad_length c = rw (← c.octet.ensures, le-ltb _ _ c.if-octet-gt1.f
 
 pub returns : goal.returns
 unfolding report_call_end if◌then◌else◌
-returns c =    rw (← c.octet.ensures, le-ltb _ _ c.if-octet-gt1.false, ← c.bad_length.ensures, c.if-bad_length.false) c.behind.ensures
+returns c = rw (← c.octet.ensures, le-ltb _ _ c.if-octet-gt1.false, ← c.bad_length.ensures, c.if-bad_length.false) c.behind.ensures

@@ -2,7 +2,6 @@
 -- Assumes nothing.
 use Rattle.texts.proofs.PutLaws.{one, short, both}
 use Rattle.traces.specs.Lines.{number_line}
-use borrow.Author.Rules.{rules}
 use Rattle.traces.proofs.text.put_line.Goals as goal
 
 pub returns : goal.returns
