@@ -3,7 +3,7 @@
 // replays.
 #![tactic(auto)]
 
-ghost use Rattle.std.specs.Prelude.{◌≤◌, length};
+ghost use Rattle.std.specs.Prelude.{◌≡◌, ◌≤◌, length, take};
 
 use octets::least;
 use replays::put_explain;
@@ -12,7 +12,8 @@ use traces::LINE;
 
 // Standard input behind the octet that stands first; how many octets that makes.
 fn read_behind(rt: &HostRuntime, input: &mut [u8]) -> usize
-    ensures { result ≤ length input.new }
+    ensures in_bounds { result ≤ length input.new }
+    ensures taken { result ≡ length (take result input.new) }
 {
     if input.len() == 0 {
         return 0;
