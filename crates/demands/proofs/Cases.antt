@@ -4,7 +4,7 @@ use Prim.Native.Nat.{ℕ, zero, suc}
 use mathlib.Core.Path.{◌≡◌, refl}
 use mathlib.Core.List.{List, [], ◌∷◌}
 use lib.ListN.{replicate}
-use Rattle.laws.specs.Choice.{if◌then◌else◌}
+use Rattle.laws.specs.Choice.{when◌then◌else◌}
 use Rattle.laws.specs.Walk.{repeat_while}
 use Rattle.octets.specs.declared.numbers.Kind.{Kind}
 use Rattle.octets.specs.declared.numbers.Kind.TheVariants.{Event, Diagnostic}
@@ -87,7 +87,7 @@ after kind n = (step elapsed_clock standard gate (report 13 some_console kind (z
 
 -- a transition of 35 octets, a login of 26 and a link of 27; and the identity behind five
 both_given : after Event 91 × after Diagnostic 25
-unfolding zeros some_identity some_console slow_transition login link calls if◌then◌else◌ repeat_while same octets_at piece_end in_range good_date good_clock good_time whole_step Subelements-step walk subelements_of subelements_start any bad_token with_element own_request_step element_step walk_elements frame_kind frame_cause request_of header_cause read_request pushed length_of body_octet body_at transition_body rsna_body peer_link_body entry_with last_of asked transition_meets rsna_meets channel_met peer_link_meets type_meets meets_at meets stands pass_row good_from good_identity report_element event_element repeated bad_listed bad_list new_requester find put replace fill_with fill next_frame event_treatment open_events take_events next_event_place gave without report_front treat_front next_from next_event unless_done diagnostic_treatment is_late on_time unless_over drop_late diagnostics_of take_diagnostics diagnostic_report next_diagnostic elapsed_at setup timed tick_requester without_late log_requester log_entry log_cause log_call with_requester serve_found serve_listed take_kind take_request request_call frame_call give_events give_diagnostics if_outstanding octets_of give_kind give_report report_call act reading_of step run
+unfolding zeros some_identity some_console slow_transition login link calls when◌then◌else◌ repeat_while same octets_at piece_end in_range good_date good_clock good_time whole_step Subelements-step walk subelements_of subelements_start any bad_token with_element own_request_step element_step walk_elements frame_kind frame_cause request_of header_cause read_request pushed length_of body_octet body_at transition_body rsna_body peer_link_body entry_with last_of asked transition_meets rsna_meets channel_met peer_link_meets type_meets meets_at meets stands pass_row good_from good_identity report_element event_element repeated bad_listed bad_list new_requester find put replace fill_with fill next_frame event_treatment open_events take_events next_event_place gave without report_front treat_front next_from next_event unless_done diagnostic_treatment is_late on_time unless_over drop_late diagnostics_of take_diagnostics diagnostic_report next_diagnostic elapsed_at setup timed tick_requester without_late log_requester log_entry log_cause log_call with_requester serve_found serve_listed take_kind take_request request_call frame_call give_events give_diagnostics if_outstanding octets_of give_kind give_report report_call act reading_of step run
 both_given = (refl, refl)
 
 -- the logged events have their lengths, so both reports are read back

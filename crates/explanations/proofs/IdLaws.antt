@@ -10,7 +10,7 @@ use lib.Dec.{eqb, ltb}
 use lib.ListN.{get_or, set}
 use lib.Seq.{get_or-set_other}
 use borrow.Author.Tests.{eqb-true, eqb-false}
-use Rattle.laws.specs.Choice.{if◌then◌else◌}
+use Rattle.laws.specs.Choice.{when◌then◌else◌}
 use Rattle.laws.specs.Walk.{repeat_while}
 use Rattle.laws.specs.Members.{Among, first, later}
 use Rattle.laws.proofs.Choice.{either, never}
@@ -72,7 +72,7 @@ module _ (s : List ℕ) (ty end : ℕ) where
         at false j (inr a) = inr (rw e (later a))
 
     whole_covers : (next : ℕ) → Covers i w (own_id (length_of ty (get_or s w.at 0) (get_or s (w.at + 2) 0)) (get_or s w.at 0) (condition_ids k s ty next end)) (ending k (whole_step s ty w next))
-    unfolding whole_step own_id if◌then◌else◌
+    unfolding whole_step own_id when◌then◌else◌
     whole_covers next = go (eqb (length_of ty id (get_or s (w.at + 2) 0)) 0) (not (eqb (get_or s (w.at + 1) 0) (length_of ty id (get_or s (w.at + 2) 0)))) (present w.filter id)
       where
         id : ℕ
@@ -84,19 +84,19 @@ module _ (s : List ℕ) (ty end : ℕ) where
         c : Condition
         c = record { present = true; octets = body_at s (w.at + 2) (get_or s (w.at + 1) 0) }
 
-        go : (a b d : Bool) → Covers i w (if a then ids else id ∷ ids)
-            (ending k (if a then past w next w.filter else if b then refused_walk bad_subelement w.at else if d then refused_walk repeated_subelement w.at else past w next (set w.filter id c)))
+        go : (a b d : Bool) → Covers i w (when a then ids else id ∷ ids)
+            (ending k (when a then past w next w.filter else when b then refused_walk bad_subelement w.at else when d then refused_walk repeated_subelement w.at else past w next (set w.filter id c)))
         go true b d = ih (past w next w.filter)
         go false true d = refused_covers 7 w.at (id ∷ ids) (omega arith)
         go false false true = refused_covers 8 w.at (id ∷ ids) (omega arith)
         go false false false = held_covers next id c (id ∷ ids) refl
 
     step_covers : ltb w.at end ≡ true → Covers i w (condition_ids (suc k) s ty w.at end) (ending k (subelement_step s ty end w))
-    unfolding subelement_step condition_ids if◌then◌else◌
+    unfolding subelement_step condition_ids when◌then◌else◌
     step_covers m = rw m (go (eqb (piece_end s w.at end) 0))
       where
-        go : (b : Bool) → Covers i w (if b then [] else own_id (length_of ty (get_or s w.at 0) (get_or s (w.at + 2) 0)) (get_or s w.at 0) (condition_ids k s ty (piece_end s w.at end) end))
-            (ending k (if b then refused_walk bad_subelement w.at else whole_step s ty w (piece_end s w.at end)))
+        go : (b : Bool) → Covers i w (when b then [] else own_id (length_of ty (get_or s w.at 0) (get_or s (w.at + 2) 0)) (get_or s w.at 0) (condition_ids k s ty (piece_end s w.at end) end))
+            (ending k (when b then refused_walk bad_subelement w.at else whole_step s ty w (piece_end s w.at end)))
         go true = refused_covers 7 w.at [] (omega arith)
         go false = whole_covers (piece_end s w.at end)
 

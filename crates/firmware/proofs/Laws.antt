@@ -11,7 +11,7 @@ use native.Mathlib.Numerals.{add-one}
 use native.Mathlib.Omega.{arith}
 use borrow.Author.Tests.{ltb-true}
 use Rattle.requests.specs.Elements.{element_capacity}
-use Rattle.laws.specs.Choice.{if◌then◌else◌}
+use Rattle.laws.specs.Choice.{when◌then◌else◌}
 use Rattle.octets.specs.declared.numbers.Kind.{Kind}
 use Rattle.requests.specs.declared.Element.{Element}
 use Rattle.request_writer.specs.Writer.{elements_answer, write_answer, write_octets, write_request}
@@ -35,7 +35,7 @@ past_elements = record { token = 0; ty = 0; timeout = 0; limit = 0; filter = [] 
 -- the writer looks at no element past the count
 module _ (kind : Kind) (dialog : ℕ) (es fs : List Element) (count : ℕ) (e : length es ≡ element_capacity) (f : length fs ≡ element_capacity) (same : take count es ≡ take count fs) where
   answer-first : elements_answer kind es count ≡ elements_answer kind fs count
-  unfolding elements_answer if◌then◌else◌
+  unfolding elements_answer when◌then◌else◌
   answer-first = go (ltb 8 count) refl
     where
       go : (b : Bool) → ltb 8 count ≡ b → elements_answer kind es count ≡ elements_answer kind fs count

@@ -1,7 +1,7 @@
 -- What crosses into C: this paper's numbers and values for each kind and each answer.
 -- Assumes nothing.
 use Rattle.std.specs.Prelude.{ℕ, List, map, Bool, true, false, not, eqb}
-use Rattle.laws.specs.Choice.{if◌then◌else◌}
+use Rattle.laws.specs.Choice.{when◌then◌else◌}
 use Rattle.octets.specs.declared.numbers.Kind.{Kind}
 use Rattle.octets.specs.declared.numbers.Kind.TheVariants.{Event, Diagnostic}
 use Rattle.model.specs.Model.{Station, Answer, accepted, nothing, of_length, turned_away, Result}
@@ -90,7 +90,7 @@ element_from e = record {
 
 unfoldable pub reply_written : Written → Reply
 reply_written w =
-    if not (eqb w.refusal.number 0) then numbered_reply 3 w.refusal.number w.refusal.place 0
+    when not (eqb w.refusal.number 0) then numbered_reply 3 w.refusal.number w.refusal.place 0
     else numbered_reply 2 0 0 w.length
 
 pub record Write : Type 0 where

@@ -9,7 +9,7 @@ use lib.ListN.{length, get_or, drop, drop_of_length-le}
 use lib.Seq.{drop-cons}
 use native.Mathlib.Numerals.{add-one}
 use borrow.Author.Tests.{ltb-false}
-use Rattle.laws.specs.Choice.{if◌then◌else◌}
+use Rattle.laws.specs.Choice.{when◌then◌else◌}
 use Rattle.laws.proofs.Choice.{either, never}
 use Rattle.identities.specs.declared.Row.{Row}
 use Rattle.identities.specs.declared.Walk.{Walk}
@@ -23,11 +23,11 @@ module _ (s : List ℕ) (at i : ℕ) where
   -- the row i had its turn, which was fine, or not
   module _ (h : i < 10) {r : Row} {w : Walk} (row : r ≡ get_or rows i past_row) (is : w ≡ pass_row s at r) where
     pub rows_next : w.fine ≡ true → good_from s w.at (drop (i + 1) rows) ≡ good_from s at (drop i rows)
-    unfolding good_from if◌then◌else◌
+    unfolding good_from when◌then◌else◌
     rows_next f = rw (drop-cons rows i past_row h, add-one, ← row, ← is, f)
 
     pub rows_stop : w.fine ≡ false → false ≡ good_from s at (drop i rows)
-    unfolding good_from if◌then◌else◌
+    unfolding good_from when◌then◌else◌
     rows_stop f = rw (drop-cons rows i past_row h, ← row, ← is, f)
 
   pub rows_end : 10 ≤ i → good_from s at (drop i rows) ≡ eqb at (length s)

@@ -9,7 +9,7 @@ use lib.Seq.{drop-cons, drop-drop, length-take-le}
 use lib.Dec.{ltb}
 use borrow.Author.Tests.{eqb-true, eqb-false}
 use native.Mathlib.Omega.{arith}
-use Rattle.laws.specs.Choice.{if◌then◌else◌}
+use Rattle.laws.specs.Choice.{when◌then◌else◌}
 use Rattle.laws.specs.Buffers.{pieces}
 use Rattle.laws.proofs.Pieces.{pieces-from}
 use Rattle.laws.proofs.Choice.{either, never}
@@ -59,11 +59,11 @@ module _ (s : List ℕ) (at : ℕ) where
   }
 
 listed_from : (s : List ℕ) (at : ℕ) (rs : List Row) → good_from s at rs ≡ true → Listed (drop at s)
-unfolding good_from subelements pieces if◌then◌else◌
+unfolding good_from subelements pieces when◌then◌else◌
 listed_from s at [] e = record { list = []; is = sym (drop_of_length-le s {i = at} (omega (arith, eqb-true at (length s) e))) }
 listed_from s at (r ∷ rs) e = go (pass_row s at r).fine refl (listed_from s (pass_row s at r).at rs) e
   where
-    go : (b : Bool) → (pass_row s at r).fine ≡ b → (good_from s (pass_row s at r).at rs ≡ true → Listed (drop (pass_row s at r).at s)) → (if b then good_from s (pass_row s at r).at rs else false) ≡ true → Listed (drop at s)
+    go : (b : Bool) → (pass_row s at r).fine ≡ b → (good_from s (pass_row s at r).at rs ≡ true → Listed (drop (pass_row s at r).at s)) → (when b then good_from s (pass_row s at r).at rs else false) ≡ true → Listed (drop at s)
     go true p later h = listed_on s at (pass_row s at r).at (row_moves s at r p) (later h)
     go false p later h = never h
 

@@ -1,7 +1,7 @@
 -- Document 01: the identity (IEEE: Manufacturer Information), and cause 16.
 -- Assumes nothing.
 use Rattle.std.specs.Prelude.{ℕ, ◌+◌, Bool, true, false, not, ◌&&◌, List, [], ◌∷◌, eqb, ltb, length, get_or}
-use Rattle.laws.specs.Choice.{if◌then◌else◌}
+use Rattle.laws.specs.Choice.{when◌then◌else◌}
 use Rattle.octets.specs.Elements.{piece_end}
 use Rattle.identities.specs.declared.Row.{Row}
 use Rattle.identities.specs.declared.Walk.{Walk}
@@ -40,17 +40,17 @@ row_walked fine at = record { fine = fine; at = at }
 -- a row's turn: its subelement, whole and of a body length in the row's range; or none, where it need not stand
 unfoldable pub pass_row : List ℕ → ℕ → Row → Walk
 pass_row s at r =
-    if not (stands s at r) then row_walked (not r.must) at
-    else if eqb (piece_end s at (length s)) 0 then row_walked false at
-    else if ltb (get_or s (at + 1) 0) r.least then row_walked false at
-    else if ltb r.most (get_or s (at + 1) 0) then row_walked false at
+    when not (stands s at r) then row_walked (not r.must) at
+    else when eqb (piece_end s at (length s)) 0 then row_walked false at
+    else when ltb (get_or s (at + 1) 0) r.least then row_walked false at
+    else when ltb r.most (get_or s (at + 1) 0) then row_walked false at
     else row_walked true (piece_end s at (length s))
 
 -- the rows left, from a position on; behind the last one nothing is left
 unfoldable pub good_from : List ℕ → ℕ → List Row → Bool
 good_from s at [] = eqb at (length s)
-good_from s at (r ∷ rs) = if (pass_row s at r).fine then good_from s (pass_row s at r).at rs else false
+good_from s at (r ∷ rs) = when (pass_row s at r).fine then good_from s (pass_row s at r).at rs else false
 
 -- "The identity is a subelement list of at most 252 octets"
 unfoldable pub good_identity : List ℕ → Bool
-good_identity s = if ltb 252 (length s) then false else good_from s 0 rows
+good_identity s = when ltb 252 (length s) then false else good_from s 0 rows

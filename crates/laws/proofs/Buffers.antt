@@ -8,7 +8,7 @@ use lib.ListN.{length, take, drop, length-append, length-drop, take-append-drop}
 use lib.Seq.{drop-append-le, drop-drop, take_at, drop_at, length-take-le, take_all, drop-length}
 use borrow.Author.Tests.{le-leb, lt-leb}
 use borrow.Rule.Slice.PartMut.{put_mid}
-use Rattle.laws.specs.Choice.{if◌then◌else◌}
+use Rattle.laws.specs.Choice.{when◌then◌else◌}
 use Rattle.laws.specs.Buffers.{onto, WrittenBuffer, wrote, put_front, put_at}
 
 pub length-onto : {A : Type 0} (o s : List A) → length o ≤ length s → length (onto o s) ≡ length s
@@ -56,20 +56,20 @@ copied o src s y e does = does ∙ ap (λ (x : List ℕ). onto x s) e
 
 module _ (o s : List ℕ) where
   pub put_front-fits : length o ≤ length s → put_front o s ≡ wrote (length o) (onto o s)
-  unfolding put_front if◌then◌else◌
+  unfolding put_front when◌then◌else◌
   put_front-fits h = rw (le-leb (length o) (length s) h)
 
   pub put_front-short : length s < length o → put_front o s ≡ wrote 0 s
-  unfolding put_front if◌then◌else◌
+  unfolding put_front when◌then◌else◌
   put_front-short h = rw (lt-leb (length o) (length s) h)
 
 module _ (o : List ℕ) (at : ℕ) (s : List ℕ) where
   pub put_at-fits : at + length o ≤ length s → put_at o at s ≡ wrote (at + length o) (take at s ++ onto o (drop at s))
-  unfolding put_at if◌then◌else◌
+  unfolding put_at when◌then◌else◌
   put_at-fits h = rw (le-leb (at + length o) (length s) h)
 
   pub put_at-short : length s < at + length o → put_at o at s ≡ wrote at s
-  unfolding put_at if◌then◌else◌
+  unfolding put_at when◌then◌else◌
   put_at-short h = rw (lt-leb (at + length o) (length s) h)
 
 -- ---- the invariant of a run of writers that write `whole` over s: buf has the octets before `at`, `rest` is to come

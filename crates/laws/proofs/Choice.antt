@@ -4,17 +4,17 @@ use Prim.Native.Nat.{ℕ}
 use mathlib.Core.Path.{◌≡◌, refl}
 use mathlib.Core.Bool.{Bool, true, false}
 use native.Mathlib.Omega.{arith}
-use Rattle.laws.specs.Choice.{if◌then◌else◌}
+use Rattle.laws.specs.Choice.{when◌then◌else◌}
 
 -- what holds of both cases holds of the choice
-pub either {ℓ} : {A : Type 0} (P : A → Type ℓ) (b : Bool) (x y : A) → (b ≡ true → P x) → (b ≡ false → P y) → P (if b then x else y)
-unfolding if◌then◌else◌
+pub either {ℓ} : {A : Type 0} (P : A → Type ℓ) (b : Bool) (x y : A) → (b ≡ true → P x) → (b ≡ false → P y) → P (when b then x else y)
+unfolding when◌then◌else◌
 either P true x y f g = f refl
 either P false x y f g = g refl
 
 -- a function of a choice
-pub apply_if : {A B : Type 0} (f : A → B) (b : Bool) (x y : A) → f (if b then x else y) ≡ (if b then f x else f y)
-unfolding if◌then◌else◌
+pub apply_if : {A B : Type 0} (f : A → B) (b : Bool) (x y : A) → f (when b then x else y) ≡ (when b then f x else f y)
+unfolding when◌then◌else◌
 apply_if f true x y = refl
 apply_if f false x y = refl
 

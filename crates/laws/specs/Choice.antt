@@ -2,7 +2,7 @@
 -- Assumes nothing.
 use Rattle.std.specs.Prelude.{Bool, true, false}
 
-infixr 2 if◌then◌else◌
-unfoldable pub if◌then◌else◌ : {A : Type 0} → Bool → A → A → A
-if true then x else y = x
-if false then x else y = y
+infixr 2 when◌then◌else◌
+unfoldable pub when◌then◌else◌ : {A : Type 0} → Bool → A → A → A
+when true then x else y = x
+when false then x else y = y

@@ -7,7 +7,7 @@ use mathlib.Core.List.{List, [], map}
 use mathlib.Core.Option.{Option, none, some}
 use native.Mathlib.Omega.{arith}
 use borrow.Author.Tests.{eqb-true, not-false}
-use Rattle.laws.specs.Choice.{if◌then◌else◌}
+use Rattle.laws.specs.Choice.{when◌then◌else◌}
 use Rattle.laws.proofs.Choice.{either}
 use Rattle.octets.specs.Times.{good_time}
 use Rattle.octets.specs.Refusals.{bad_time, bad_report_body}
@@ -60,10 +60,10 @@ module _ (k : Clock) (most : Capacities) (g : Station) (c : Call) where
 
 -- an event that logging does not refuse
 pub log-good : (x : LoggedEvent) → log_cause x ≡ 0 → (good_time (event_times x).time ≡ true) × (good_rsn_element x ≡ true)
-unfolding log_cause if◌then◌else◌
+unfolding log_cause when◌then◌else◌
 log-good x = go (good_time (event_times x).time) (good_rsn_element x)
   where
-    go : (a b : Bool) → (if not a then bad_time else if not b then bad_report_body else 0) ≡ 0 → (a ≡ true) × (b ≡ true)
+    go : (a b : Bool) → (when not a then bad_time else when not b then bad_report_body else 0) ≡ 0 → (a ≡ true) × (b ≡ true)
     go true true e = (refl, refl)
     go true false e = absurd (omega arith)
     go false b e = absurd (omega arith)

@@ -6,7 +6,7 @@ use mathlib.Core.Option.{Option, none, some}
 use native.Mathlib.Omega.{arith}
 use lib.ListN.{length, length-append}
 use borrow.Author.Tests.{leb-true, le-leb}
-use Rattle.laws.specs.Choice.{if◌then◌else◌}
+use Rattle.laws.specs.Choice.{when◌then◌else◌}
 use Rattle.laws.proofs.Choice.{either}
 use Rattle.model.specs.Fill.{Piece, fill_with, fill}
 
@@ -43,7 +43,7 @@ module _ {R : Type 0} (next : R → Option (Piece R)) where
   -- where the next piece fits, what is left of the request is what is left behind it
   pub fill_more : (fuel room : ℕ) (r : R) (p : Piece R) → next r ≡ some p → length p.octets ≤ room
       → (fill next (suc fuel) room r).rest ≡ (fill next fuel (room - length p.octets) p.rest).rest
-  unfolding fill fill_with if◌then◌else◌
+  unfolding fill fill_with when◌then◌else◌
   fill_more fuel room r p e h = rw (e, le-leb (length p.octets) room h)
 
   pub fill_none : (fuel room : ℕ) (r : R) → next r ≡ none → (fill next fuel room r).rest ≡ r

@@ -11,7 +11,7 @@ use native.Mathlib.Nat.{mul-le-mul_right}
 use lib.Dec.{ltb, eqb}
 use lib.ListN.{length, get_or, take, length-append, length-map, length-take}
 use borrow.Author.Tests.{eqb-true, eq-eqb, ltb-false, not-false}
-use Rattle.laws.specs.Choice.{if◌then◌else◌}
+use Rattle.laws.specs.Choice.{when◌then◌else◌}
 use Rattle.laws.specs.Members.{All, nil, also}
 use Rattle.laws.proofs.Choice.{either, never}
 use Rattle.octets.specs.declared.numbers.Kind.{Kind}
@@ -149,7 +149,7 @@ module _ (since : ℕ → ℕ → ℕ) (form : ℕ) (log : List Entry) where
       (λ z. gives_one _ _ _ _ _ _ refl (omega (arith, eqb-true r.given 0 z)) (λ _. bare-fits x successful)) (λ _. gives_more _ _ _ r.dialog _ _ behind (omega arith) h)
 
   from_gives : (r : EventRequest) (xs : List Element) → r.elements ≡ xs → GivesEvents r.dialog (reports_from r xs) (next_from since form log r xs)
-  unfolding next_from event_treatment treat_front reports_from reports_of events_left without Gives if◌then◌else◌
+  unfolding next_from event_treatment treat_front reports_from reports_of events_left without Gives when◌then◌else◌
   from_gives r [] l = tt
   from_gives r (x ∷ xs) l = by_type (ltb x.ty tables) refl (from_gives (without r xs) xs refl)
     where
@@ -157,7 +157,7 @@ module _ (since : ℕ → ℕ → ℕ) (form : ℕ) (log : List Entry) where
       behind = next_from since form log (without r xs) xs
 
       by_type : (b : Bool) → ltb x.ty tables ≡ b → GivesEvents r.dialog (reports_from (without r xs) xs) behind
-          → GivesEvents r.dialog (reports_of b r.given r.below + reports_from (without r xs) xs) (treat_front since form log r x xs behind (if b then Report else Incapable))
+          → GivesEvents r.dialog (reports_of b r.given r.below + reports_from (without r xs) xs) (treat_front since form log r x xs behind (when b then Report else Incapable))
       by_type true t h = front_gives r x xs behind l t h (next_event_place since log r x) refl
       by_type false t h = (refl, omega arith, λ _. bare-fits x incapable)
 
@@ -305,14 +305,14 @@ module _ (Short : Type 0) (n : ℕ) where
   -- with the token d, which may replace it by one with that token
   replace_fate : {R : Type 0} (dialog size : R → ℕ) (d : ℕ) (new : Option R) → ((x : R) → new ≡ some x → dialog x ≡ d) → (o : Option R) → map dialog o ≡ some n
       → FateOf dialog size (not (eqb d n)) 0 o (replace (λ r. eqb d (dialog r)) new o)
-  unfolding replace if◌then◌else◌
+  unfolding replace when◌then◌else◌
   replace_fate {R} dialog size d new named = of_some dialog _ (λ r p. rw (ap (eqb d) (sym p)) (go r p (eqb d (dialog r)) refl))
     where
       is : (o : Option R) → new ≡ o → map dialog o ≡ some n → d ≡ n
       is none p q = never cc
       is (some x) p q = sym (named x p) ∙ some-injective _ _ q
 
-      go : (r : R) → dialog r ≡ n → (b : Bool) → eqb d (dialog r) ≡ b → FateOf dialog size (not b) 0 (some r) (if b then some r else new)
+      go : (r : R) → dialog r ≡ n → (b : Bool) → eqb d (dialog r) ≡ b → FateOf dialog size (not b) 0 (some r) (when b then some r else new)
       go r p true e = stays refl (is_token (dialog r) p) (λ _. omega arith)
       go r p false e = gone refl (λ q. never (sym e ∙ eq-eqb d (dialog r) (is new refl q ∙ sym p)))
 
@@ -330,14 +330,14 @@ module _ (Short : Type 0) (n : ℕ) where
     ends asked kind = same_kind asked kind && (cancels kind q || not (eqb q.dialog n))
 
     kind_fate : (asked kind : Kind) (r : Requester) → dialog_of kind r ≡ some n → FateIn kind (ends asked kind) 0 r (take_kind now log q r asked)
-    unfolding dialog_of left take_kind take_events take_diagnostics cancels left_of if◌then◌else◌
+    unfolding dialog_of left take_kind take_events take_diagnostics cancels left_of when◌then◌else◌
     kind_fate Event Event r e = replace_fate event_dialog events_left q.dialog _ (open_named (length log) q) r.events e
     kind_fate Event Diagnostic r e = stays refl e (λ _. omega arith)
     kind_fate Diagnostic Event r e = stays refl e (λ _. omega arith)
     kind_fate Diagnostic Diagnostic r e = go (holds_cancel (diagnostics_of q))
       where
         go : (b : Bool) → FateOf diagnostic_dialog diagnostics_left (b || not (eqb q.dialog n)) 0 r.diagnostics
-            (if b then none else replace (λ x. eqb q.dialog x.dialog) (unless_over q.dialog now (diagnostics_of q)) r.diagnostics)
+            (when b then none else replace (λ x. eqb q.dialog x.dialog) (unless_over q.dialog now (diagnostics_of q)) r.diagnostics)
         go true = gone refl (λ z. never cc)
         go false = replace_fate diagnostic_dialog diagnostics_left q.dialog _ (over-named q.dialog now (diagnostics_of q)) r.diagnostics e
 
@@ -363,7 +363,7 @@ module _ (now : ℕ) (log : List Entry) (q : Request) (some-asked : HasOne q) wh
   new-named (x ∷ xs) h = refl
 
   kind_named : q.refusal.number ≡ 0 → (kind : Kind) → q.kind ≡ kind → cancels kind q ≡ false → (r : Requester) → dialog_of kind (take_kind now log q r kind) ≡ some q.dialog
-  unfolding dialog_of take_kind take_events take_diagnostics open_events cancels diagnostics_of if◌then◌else◌
+  unfolding dialog_of take_kind take_events take_diagnostics open_events cancels diagnostics_of when◌then◌else◌
   kind_named z Event k c r = replaced_named event_dialog _ refl r.events
   kind_named z Diagnostic k c r =
       rw c (replaced_named diagnostic_dialog _ (new-named (diagnostics_of q) (omega (arith, some-asked.one z k, length-map (take q.count q.elements) diagnostic_of))) r.diagnostics)
@@ -389,7 +389,7 @@ if-outstanding P give r b (some q) x f = f q refl
 module _ (since : ℕ → ℕ → ℕ) (i : Option (List ℕ)) (log : List Entry) (b : List ℕ) (n : ℕ) where
   -- by the kind that is asked for, and the request's
   abbrev GivenFate : Kind → Kind → Requester → Served → Type 0
-  GivenFate asked kind r x = FateIn (Short log i) n kind false (if same_kind asked kind then frames_in x.answer else 0) r x.requester
+  GivenFate asked kind r x = FateIn (Short log i) n kind false (when same_kind asked kind then frames_in x.answer else 0) r x.requester
 
   module _ (long : report_buffer ≤ length b) where
     events-given : (r : Requester) (q : EventRequest) → q.dialog ≡ n → FateOf (Short log i) n event_dialog events_left false 1 (some q) (give_events since log b r q).requester.events
@@ -425,7 +425,7 @@ module _ (since : ℕ → ℕ → ℕ) (i : Option (List ℕ)) (log : List Entry
             omega (arith, fill_falls _ _ _ (next_diagnostic (octets_of i)) (diagnostic_gives (octets_of i)) size q.elements (omega arith) s.1 x.0 x.1)
 
     give_kind_fate : (asked kind : Kind) (r : Requester) → dialog_of kind r ≡ some n → GivenFate asked kind r (give_kind since i log b r asked)
-    unfolding give_kind give_events give_diagnostics dialog_of left frames_in if◌then◌else◌
+    unfolding give_kind give_events give_diagnostics dialog_of left frames_in when◌then◌else◌
     give_kind_fate Event Event r e =
         if-outstanding (GivenFate Event Event r) _ r b r.events (stays refl e (λ _. omega arith)) (λ q p. rw p (events-given r q (some-injective _ _ (rw p at e))))
     give_kind_fate Diagnostic Diagnostic r e =
@@ -434,7 +434,7 @@ module _ (since : ℕ → ℕ → ℕ) (i : Option (List ℕ)) (log : List Entry
     give_kind_fate Diagnostic Event r e = if-outstanding (GivenFate Diagnostic Event r) _ r b r.diagnostics (stays refl e (λ _. omega arith)) (λ q p. stays refl e (λ _. omega arith))
 
   pub give_fate : (asked kind : Kind) (r : Requester) → dialog_of kind r ≡ some n → let x = give_report since i log asked b r in
-      FateIn (Short log i) n kind false (if same_kind asked kind then frames_in x.answer else 0) r x.requester
+      FateIn (Short log i) n kind false (when same_kind asked kind then frames_in x.answer else 0) r x.requester
   unfolding give_report frames_in
   give_fate asked kind r e =
       either (GivenFate asked kind r) _ _ _

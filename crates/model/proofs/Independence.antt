@@ -8,7 +8,7 @@ use mathlib.Core.List.{List, [], ◌∷◌, ◌++◌, map}
 use mathlib.Core.Option.{Option, none, some, some-injective}
 use native.Mathlib.Omega.{arith}
 use borrow.Author.Tests.{not-false}
-use Rattle.laws.specs.Choice.{if◌then◌else◌}
+use Rattle.laws.specs.Choice.{when◌then◌else◌}
 use Rattle.laws.proofs.Choice.{either, never}
 use Rattle.units.specs.Time.{age, elapsed_top, elapsed_since}
 use Rattle.model.specs.Clocks.{Timer, unset, Clock, elapsed_at, elapsed_clock}
@@ -87,16 +87,16 @@ module _ (most : Capacities) where
     abbrev Renewed : Result → Result → Type 0
     Renewed x y = is_accepted x.answer ≡ true → (x.station ≡ blank g.timer (some i) l) × (y.station ≡ blank unset (some i) l)
 
-    renewed_if : (b : Bool) (x x' y y' : Result) → Renewed x x' → Renewed y y' → Renewed (if b then x else y) (if b then x' else y')
-    unfolding if◌then◌else◌
+    renewed_if : (b : Bool) (x x' y y' : Result) → Renewed x x' → Renewed y y' → Renewed (when b then x else y) (when b then x' else y')
+    unfolding when◌then◌else◌
     renewed_if true x x' y y' p q = p
     renewed_if false x x' y y' p q = q
 
     abbrev named : Result
-    named = if not (good_identity i) then result nobody (refused_for bad_identity) [] else result (new_station unset i [] l) accepted []
+    named = when not (good_identity i) then result nobody (refused_for bad_identity) [] else result (new_station unset i [] l) accepted []
 
     renamed_new : (o : Option (List ℕ)) → Known i o → Renewed (rename_with [] l g o) named
-    unfolding rename_with is_accepted Known if◌then◌else◌
+    unfolding rename_with is_accepted Known when◌then◌else◌
     renamed_new none k e = never cc
     renamed_new (some j) k e = (rw k.0, rw k.1)
 

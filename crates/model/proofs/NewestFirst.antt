@@ -12,7 +12,7 @@ use lib.Dec.{eqb, ltb, leb}
 use lib.ListN.{length, get_or, take, drop, take-append-drop}
 use lib.Seq.{take-nil, take-append_seam, take-add}
 use borrow.Author.Tests.{eqb-true, eq-eqb, ne_eqb, ltb-true, ltb-false, le-ltb}
-use Rattle.laws.specs.Choice.{if◌then◌else◌}
+use Rattle.laws.specs.Choice.{when◌then◌else◌}
 use Rattle.laws.proofs.Choice.{either, never}
 use Rattle.laws.specs.Buffers.{onto}
 use Rattle.laws.specs.Members.{All, also}
@@ -84,7 +84,7 @@ module _ (since : ℕ → ℕ → ℕ) (log : List Entry) where
 
     -- fuel: a bound of what is left to give
     gives-still : (fuel : ℕ) (r : EventRequest) → x.limit ≤ r.given + fuel → GivesPlaces r (still r)
-    unfolding next_event_place gave if◌then◌else◌
+    unfolding next_event_place gave when◌then◌else◌
     gives-still zero r h =
         let e : x.limit - r.given ≡ 0 = omega arith in
         rw e (over {r = r} (rw (le-ltb r.given x.limit (omega arith))))
@@ -138,11 +138,11 @@ module _ (since : ℕ → ℕ → ℕ) (form : ℕ) (log : List Entry) where
       on_event r p h e = report-is r h (some p) e
 
       on_over : (r : EventRequest) → r.elements ≡ x ∷ xs → 0 < r.given → next_event_place since log r x ≡ none → next r ≡ next (without r xs)
-      unfolding report_front if◌then◌else◌
+      unfolding report_front when◌then◌else◌
       on_over r h k e = report-is r h none e ∙ rw (ne_eqb r.given 0 (omega arith))
 
       on_none : (r : EventRequest) → r.elements ≡ x ∷ xs → r.given ≡ 0 → next_event_place since log r x ≡ none → next r ≡ some (record { octets = bare x successful; rest = without r xs })
-      unfolding report_front if◌then◌else◌
+      unfolding report_front when◌then◌else◌
       on_none r h k e = report-is r h none e ∙ rw (eq-eqb r.given 0 k)
 
       -- an element that gave some
@@ -295,7 +295,7 @@ module _ (k : Clock) (most : Capacities) (s : Address) (form : ℕ) (log : List 
   module _ (g : Station) (t : ℕ) (kind : Kind) (b : List ℕ) where
     own_seen : (r : Requester) → let w = tick_seen k t (seen s g) in w.slot ≡ some r
         → seen s (step k most g (report t s kind b)).station ≡ record { timer = w.timer; identity = w.identity; log = w.log; slot = some (give_report k.since w.identity w.log kind b r).requester }
-    unfolding step_seen act_seen served_seen reading_of if◌then◌else◌
+    unfolding step_seen act_seen served_seen reading_of when◌then◌else◌
     own_seen r e = seen_step k most s (report t s kind b) g ∙ rw (same_refl s, e)
 
     own_reply : (r : Requester) → let w = tick_seen k t (seen s g) in w.slot ≡ some r
@@ -316,7 +316,7 @@ module _ (k : Clock) (most : Capacities) (s : Address) (form : ℕ) (log : List 
   seen_gave l e i b r h os x = rw e (in_form k.since log r.events os _ r.form form h (report-gave k.since log i b r os) x)
 
   own_gave : (os : List (List ℕ)) (g : Station) (t : ℕ) (kind : Kind) (b : List ℕ) → Standing os (seen s g) → GaveSome os g (report t s kind b)
-  unfolding events_of events_in flatten if◌then◌else◌
+  unfolding events_of events_in flatten when◌then◌else◌
   own_gave os g t Event b x =
       let y = tick-stands os t (seen s g) x in
       let w = tick_seen k t (seen s g) in
@@ -335,7 +335,7 @@ module _ (k : Clock) (most : Capacities) (s : Address) (form : ℕ) (log : List 
       }
 
   call-gave : (os : List (List ℕ)) (g : Station) (c : Call) → LetsBe s c → Standing os (seen s g) → GaveSome os g c
-  unfolding LetsBe events_of step_seen act_seen reading_of sender quiet_for if◌then◌else◌
+  unfolding LetsBe events_of step_seen act_seen reading_of sender quiet_for when◌then◌else◌
   call-gave os g (clock t) l x = gave_none os g (clock t) refl refl x
   call-gave os g (logging t e) l x = absurd l
   call-gave os g (frame t d a o) l x = quiet-gave os g (frame t d a o) refl (rw l) x
@@ -377,12 +377,12 @@ module _ (k : Clock) (most : Capacities) (g : Station) (t : ℕ) (d s : Address)
   ticked = tick_seen k t (seen s g)
 
   frame-answer : (step k most g (frame t d s o)).answer
-      ≡ (if is_group d then record { answer = refused_for group_destination; buffer = [] } else served_reply (take_request ticked.timer.now g.log asked) [] ticked.slot).answer
+      ≡ (when is_group d then record { answer = refused_for group_destination; buffer = [] } else served_reply (take_request ticked.timer.now g.log asked) [] ticked.slot).answer
   unfolding sender to_sender reply step_reply seen_reply tick_seen seen reading_of
   frame-answer = ap (λ (r : Reply). r.answer) (some-injective _ _ (seen-reply k most (frame t d s o) (λ _. g)))
 
   frame_seen : seen s (step k most g (frame t d s o)).station
-      ≡ (if is_group d then ticked else served_seen s s (take_request ticked.timer.now g.log asked) ticked)
+      ≡ (when is_group d then ticked else served_seen s s (take_request ticked.timer.now g.log asked) ticked)
   unfolding step_seen act_seen tick_seen seen reading_of
   frame_seen = seen_step k most s (frame t d s o) g
 
@@ -392,11 +392,11 @@ module _ (k : Clock) (most : Capacities) (g : Station) (t : ℕ) (d s : Address)
     Opened = Standing k most s form g.log (request_reports k.since form g.log (length g.log) (take asked.count asked.elements))
 
     replaced : (e : Option EventRequest) → (Option.map (λ q. q.dialog) e ≡ some asked.dialog → ⊥) → take_events (length g.log) asked e ≡ some (open_events (length g.log) asked)
-    unfolding take_events replace if◌then◌else◌
+    unfolding take_events replace when◌then◌else◌
     replaced none n = refl
     replaced (some e) n = go (eqb asked.dialog e.dialog) refl
       where
-        go : (b : Bool) → eqb asked.dialog e.dialog ≡ b → (if b then some e else some (open_events (length g.log) asked)) ≡ some (open_events (length g.log) asked)
+        go : (b : Bool) → eqb asked.dialog e.dialog ≡ b → (when b then some e else some (open_events (length g.log) asked)) ≡ some (open_events (length g.log) asked)
         go true i = absurd (n (ap (λ (x : ℕ). some x) (sym (eqb-true asked.dialog e.dialog i))))
         go false i = refl
 
@@ -417,15 +417,15 @@ module _ (k : Clock) (most : Capacities) (g : Station) (t : ℕ) (d s : Address)
     }
 
     opened : (step k most g (frame t d s o)).answer ≡ accepted → Opened (seen s (step k most g (frame t d s o)).station)
-    unfolding tick_seen seen served_seen served_reply take_request tick_requester if◌then◌else◌
+    unfolding tick_seen seen served_seen served_reply take_request tick_requester when◌then◌else◌
     opened e = rw frame_seen (go (is_group d) (find s g.requesters) refl (not (eqb asked.refusal.number 0)) refl (sym frame-answer ∙ e))
       where
         serve : Requester → Served
         serve = take_request ticked.timer.now g.log asked
 
         go : (x : Bool) (slot : Option Requester) → find s g.requesters ≡ slot → (y : Bool) → not (eqb asked.refusal.number 0) ≡ y
-            → (if x then record { answer = refused_for group_destination; buffer = [] } else served_reply serve [] ticked.slot).answer ≡ accepted
-            → Opened (if x then ticked else served_seen s s serve ticked)
+            → (when x then record { answer = refused_for group_destination; buffer = [] } else served_reply serve [] ticked.slot).answer ≡ accepted
+            → Opened (when x then ticked else served_seen s s serve ticked)
         go true slot f y i h = never cc
         go false none f y i h = let z : refused_for unknown_requester ≡ accepted = rw f at h in never cc
         go false (some r) f true i h = let z : turned_away asked.refusal ≡ accepted = rw (f, i) at h in never cc

@@ -8,7 +8,7 @@ use mathlib.Core.Option.{Option, none, some}
 use lib.Dec.{ltb}
 use borrow.Author.Tests.{ltb-true, ltb-false, lt-ltb, le-ltb}
 use native.Mathlib.Omega.{arith}
-use Rattle.laws.specs.Choice.{if◌then◌else◌}
+use Rattle.laws.specs.Choice.{when◌then◌else◌}
 use Rattle.laws.proofs.Choice.{either, never}
 use Rattle.requests.specs.declared.Element.{Element}
 use Rattle.events.specs.declared.Entry.{Entry}
@@ -45,14 +45,14 @@ module _ (since : ℕ → ℕ → ℕ) (log : List Entry) (r : EventRequest) (x 
 
   -- below the limit the choice is that of the places
   below : r.given < x.limit → next_event_place since log r x ≡ last_of test (eligible_places log r)
-  unfolding next_event_place if◌then◌else◌
+  unfolding next_event_place when◌then◌else◌
   below l = rw (lt-ltb r.given x.limit l)
 
   none_left : next_event_place since log r x ≡ none → r.given < x.limit → (q : ℕ) → Eligible log r q → test q ≡ false
   none_left e l q h = last_none test (eligible_places log r) q (sym (below l) ∙ e) (within q h)
 
   over : x.limit ≤ r.given → next_event_place since log r x ≡ none
-  unfolding next_event_place if◌then◌else◌
+  unfolding next_event_place when◌then◌else◌
   over h = rw (le-ltb r.given x.limit h)
 
   unmatched : ((q : ℕ) → Eligible log r q → test q ≡ false) → next_event_place since log r x ≡ none

@@ -9,7 +9,7 @@ use mathlib.Core.Option.{Option, none, some, some-injective}
 use native.Mathlib.Omega.{arith}
 use lib.Dec.{eqb}
 use borrow.Author.Tests.{ltb-true}
-use Rattle.laws.specs.Choice.{if◌then◌else◌}
+use Rattle.laws.specs.Choice.{when◌then◌else◌}
 use Rattle.laws.specs.Members.{All, nil, also}
 use Rattle.laws.proofs.Choice.{either, never}
 use Rattle.units.specs.Time.{elapsed_since}
@@ -42,14 +42,14 @@ module _ (now : ℕ) where
   Settled o = drop_late elapsed_since now o ≡ o
 
   on_time_twice : (a : ℕ) (xs : List DiagnosticElement) → on_time elapsed_since now a (on_time elapsed_since now a xs) ≡ on_time elapsed_since now a xs
-  unfolding on_time if◌then◌else◌
+  unfolding on_time when◌then◌else◌
   on_time_twice a [] = refl
   on_time_twice a (x ∷ xs) = go (is_late elapsed_since now a x) refl (on_time_twice a xs)
     where
       rest : List DiagnosticElement
       rest = on_time elapsed_since now a xs
 
-      go : (b : Bool) → is_late elapsed_since now a x ≡ b → on_time elapsed_since now a rest ≡ rest → on_time elapsed_since now a (if b then rest else x ∷ rest) ≡ (if b then rest else x ∷ rest)
+      go : (b : Bool) → is_late elapsed_since now a x ≡ b → on_time elapsed_since now a rest ≡ rest → on_time elapsed_since now a (when b then rest else x ∷ rest) ≡ (when b then rest else x ∷ rest)
       go true e h = h
       go false e h = rw (e, h)
 
@@ -63,7 +63,7 @@ module _ (now : ℕ) where
       go false e = refl
 
   on_time-new : (xs : List DiagnosticElement) → on_time elapsed_since now now xs ≡ xs
-  unfolding on_time if◌then◌else◌
+  unfolding on_time when◌then◌else◌
   on_time-new [] = refl
   on_time-new (x ∷ xs) = rw (not_late x, on_time-new xs)
 
@@ -145,7 +145,7 @@ tick-still t g = record {
 
 update : Address → (Requester → Requester) → List Requester → List Requester
 update a f [] = []
-update a f (r ∷ rs) = if same a r.address then f r ∷ rs else r ∷ update a f rs
+update a f (r ∷ rs) = when same a r.address then f r ∷ rs else r ∷ update a f rs
 
 update_none : (a : Address) (rs : List Requester) → update a (λ r. r) rs ≡ rs
 unfolding update
@@ -159,12 +159,12 @@ update_all {P} a f h (r ∷ rs) (also p ps) = either (All P) _ _ _ (λ _. also (
 
 -- of two sources
 update_swap : (a b : Address) → same a b ≡ false → (f h : Requester → Requester) → Keeps f → Keeps h → (rs : List Requester) → update b h (update a f rs) ≡ update a f (update b h rs)
-unfolding update if◌then◌else◌
+unfolding update when◌then◌else◌
 update_swap a b n f h kf kh [] = refl
 update_swap a b n f h kf kh (r ∷ rs) = go (same a r.address) refl (same b r.address) refl (update_swap a b n f h kf kh rs)
   where
     go : (s : Bool) → same a r.address ≡ s → (t : Bool) → same b r.address ≡ t → update b h (update a f rs) ≡ update a f (update b h rs)
-        → update b h (if s then f r ∷ rs else r ∷ update a f rs) ≡ update a f (if t then h r ∷ rs else r ∷ update b h rs)
+        → update b h (when s then f r ∷ rs else r ∷ update a f rs) ≡ update a f (when t then h r ∷ rs else r ∷ update b h rs)
     go true p true q e = never (sym n ∙ ap (same a) (same_true b r.address q) ∙ p)
     go true p false q e = rw ((kf r).0, p, q)
     go false p true q e = rw ((kh r).0, p, q)
@@ -180,13 +180,13 @@ module _ (a : Address) (serve : Requester → Served) where
   served_in rs (some r) = put a (serve r).requester rs
 
   served_update : (rs : List Requester) (o : Option Requester) → find a rs ≡ o → served_in rs o ≡ update a (λ r. (serve r).requester) rs
-  unfolding served_in update find put if◌then◌else◌
+  unfolding served_in update find put when◌then◌else◌
   served_update [] none e = refl
   served_update [] (some r) e = never cc
   served_update (q ∷ rs) o e = go (same a q.address) refl o e (served_update rs)
     where
-      go : (b : Bool) → same a q.address ≡ b → (o : Option Requester) → (if b then some q else find a rs) ≡ o → ((o : Option Requester) → find a rs ≡ o → served_in rs o ≡ update a (λ r. (serve r).requester) rs)
-          → served_in (q ∷ rs) o ≡ (if b then (serve q).requester ∷ rs else q ∷ update a (λ r. (serve r).requester) rs)
+      go : (b : Bool) → same a q.address ≡ b → (o : Option Requester) → (when b then some q else find a rs) ≡ o → ((o : Option Requester) → find a rs ≡ o → served_in rs o ≡ update a (λ r. (serve r).requester) rs)
+          → served_in (q ∷ rs) o ≡ (when b then (serve q).requester ∷ rs else q ∷ update a (λ r. (serve r).requester) rs)
       go true p none e h = never cc
       go true p (some r) e h = rw (p, some-injective q r e)
       go false p none e h = ap (◌∷◌ q) (h none e)
@@ -200,17 +200,17 @@ module _ (a : Address) (serve : Requester → Served) where
 module _ (most : Capacities) where
   -- what a frame to d with the octets o makes of its requester
   taken : Station → Address → List ℕ → Requester → Requester
-  taken u d o r = if is_group d then r else (take_request u.timer.now u.log (read_request most.elements o) r).requester
+  taken u d o r = when is_group d then r else (take_request u.timer.now u.log (read_request most.elements o) r).requester
 
   frame-station : (d a : Address) (o : List ℕ) (u : Station) → (frame_call most d a o u).station ≡ with_requesters u (update a (taken u d o) u.requesters)
-  unfolding frame_call request_call serve_listed taken if◌then◌else◌
+  unfolding frame_call request_call serve_listed taken when◌then◌else◌
   frame-station d a o u = go (is_group d)
     where
       serve : Requester → Served
       serve = take_request u.timer.now u.log (read_request most.elements o)
 
-      go : (b : Bool) → (if b then result u (refused_for group_destination) [] else serve_found a serve [] u (find a u.requesters)).station
-          ≡ with_requesters u (update a (λ r. if b then r else (serve r).requester) u.requesters)
+      go : (b : Bool) → (when b then result u (refused_for group_destination) [] else serve_found a serve [] u (find a u.requesters)).station
+          ≡ with_requesters u (update a (λ r. when b then r else (serve r).requester) u.requesters)
       go true = ap (with_requesters u) (sym (update_none a u.requesters))
       go false = found-station a serve u (find a u.requesters) ∙ ap (with_requesters u) (served_update a serve u.requesters (find a u.requesters) refl)
 
@@ -239,7 +239,7 @@ module _ (most : Capacities) where
   -- behind another's frame a frame is answered as behind a clock reading, which changes nothing at its own reading
   frame-behind : (g : Station) (t : ℕ) (d e a b : Address) (o p : List ℕ) → same a b ≡ false
       → reply elapsed_clock most (step elapsed_clock most g (frame t d a o)).station (frame t e b p) ≡ reply elapsed_clock most g (frame t e b p)
-  unfolding run step act reading_of reply sender quiet_for if◌then◌else◌
+  unfolding run step act reading_of reply sender quiet_for when◌then◌else◌
   frame-behind g t d e a b o p n =
       rw n at (independent_of_others elapsed_clock most g (frame t d a o ∷ []) (frame t e b p) b refl)
       ∙ ap (λ (u : Station). reply_of (frame_call most e b p u)) (still-tick t (tick elapsed_clock t g) (tick-still t g))
@@ -275,12 +275,12 @@ module _ (most : Capacities) where
   same_again x y e = record { same-reply = ap reply_of e; same-station = λ _. ap (λ (z : Result). z.station) e }
 
   rename_again : (log : List Entry) (l m : List Listed) (u : Station) → Again (rename most [] m (rename most log l u).station) (rename most [] m u)
-  unfolding rename rename_with if◌then◌else◌
+  unfolding rename rename_with when◌then◌else◌
   rename_again log l m u = go (bad_list most.requesters m) (bad_list most.requesters l) u.identity refl
     where
       go : (b x : Bool) (o : Option (List ℕ)) → u.identity ≡ o
-          → let h = (if x then result u (refused_for bad_requester_list) [] else rename_with log l u o).station in
-          Again (if b then result h (refused_for bad_requester_list) [] else rename_with [] m h h.identity) (if b then result u (refused_for bad_requester_list) [] else rename_with [] m u o)
+          → let h = (when x then result u (refused_for bad_requester_list) [] else rename_with log l u o).station in
+          Again (when b then result h (refused_for bad_requester_list) [] else rename_with [] m h h.identity) (when b then result u (refused_for bad_requester_list) [] else rename_with [] m u o)
       go true x o e = record { same-reply = refl; same-station = λ p. never cc }
       go false true o e = same_again _ _ (ap (rename_with [] m u) e)
       go false false none e = same_again _ _ (ap (rename_with [] m u) e)
@@ -288,12 +288,12 @@ module _ (most : Capacities) where
 
   -- the same change twice; a refused one leaves the station as it is
   rename_twice : (l : List Listed) (u : Station) → rename most [] l (rename most [] l u).station ≡ rename most [] l u
-  unfolding rename rename_with if◌then◌else◌
+  unfolding rename rename_with when◌then◌else◌
   rename_twice l u = go (bad_list most.requesters l) u.identity refl
     where
       go : (b : Bool) (o : Option (List ℕ)) → u.identity ≡ o
-          → let x = if b then result u (refused_for bad_requester_list) [] else rename_with [] l u o in
-          (if b then result x.station (refused_for bad_requester_list) [] else rename_with [] l x.station x.station.identity) ≡ x
+          → let x = when b then result u (refused_for bad_requester_list) [] else rename_with [] l u o in
+          (when b then result x.station (refused_for bad_requester_list) [] else rename_with [] l x.station x.station.identity) ≡ x
       go true o e = refl
       go false none e = ap (rename_with [] l u) e
       go false (some i) e = refl

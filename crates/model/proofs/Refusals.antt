@@ -9,7 +9,7 @@ use lib.Dec.{eqb}
 use borrow.Author.Tests.{eqb-false, not-true}
 use native.Mathlib.Omega.{arith}
 use Rattle.laws.specs.Members.{Among, first, later}
-use Rattle.laws.specs.Choice.{if◌then◌else◌}
+use Rattle.laws.specs.Choice.{when◌then◌else◌}
 use Rattle.laws.proofs.Members.{among_at_most, among_behind}
 use Rattle.laws.proofs.Choice.{either, never}
 use Rattle.octets.specs.declared.numbers.Kind.{Kind}
@@ -51,11 +51,11 @@ module _ {S : Type 0} (causes : List ℕ) (s : S) (b : List ℕ) where
 -- ---- the calls of a requester
 
 put-found : (a : Address) (r : Requester) (rs : List Requester) → find a rs ≡ some r → put a r rs ≡ rs
-unfolding find put if◌then◌else◌
+unfolding find put when◌then◌else◌
 put-found a r [] e = refl
 put-found a r (q ∷ rs) e = go (same a q.address) e (put-found a r rs)
   where
-    go : (t : Bool) → (if t then some q else find a rs) ≡ some r → (find a rs ≡ some r → put a r rs ≡ rs) → (if t then r ∷ rs else q ∷ put a r rs) ≡ q ∷ rs
+    go : (t : Bool) → (when t then some q else find a rs) ≡ some r → (find a rs ≡ some r → put a r rs ≡ rs) → (when t then r ∷ rs else q ∷ put a r rs) ≡ q ∷ rs
     go true h rest = ap (λ (x : Requester). x ∷ rs) (sym (some-injective q r h))
     go false h rest = ap (λ (l : List Requester). q ∷ l) (rest h)
 

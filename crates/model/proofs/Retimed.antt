@@ -12,7 +12,7 @@ use borrow.Author.Tests.{eqb-true}
 use lib.Dec.{ltb, eqb}
 use lib.ListN.{length, get_or, drop, length-map}
 use Rattle.laws.specs.Members.{any}
-use Rattle.laws.specs.Choice.{if◌then◌else◌}
+use Rattle.laws.specs.Choice.{when◌then◌else◌}
 use Rattle.laws.proofs.Choice.{either, apply_if}
 use Rattle.octets.specs.declared.numbers.Kind.{Kind}
 use Rattle.octets.specs.declared.numbers.Kind.TheVariants.{Event, Diagnostic}
@@ -152,7 +152,7 @@ module _ (f : ℕ → ℕ) where
   unfolding pushed
   push_by n log e =
       rw (length-map log entry_by, drop_by log, ← apply_if (map entry_by) (ltb (length log) n) log (drop 1 log))
-      (sym (map-append entry_by (if ltb (length log) n then log else drop 1 log) (e ∷ [])))
+      (sym (map-append entry_by (when ltb (length log) n then log else drop 1 log) (e ∷ [])))
 
   log_by : (most : Capacities) (log : List Entry) (r : Requester) → log_requester most (map entry_by log) (requester_by r) ≡ requester_by (log_requester most log r)
   unfolding log_requester lower_requester requester_by
@@ -205,7 +205,7 @@ module _ (f : ℕ → ℕ) where
     module _ (log : List Entry) where
       recent_by : (mark : ℕ) → OfLog Agree mark log → (p : ℕ) → p < min mark (length log) → type_of (get_or log p past_log) ≡ 0
           → recent_in since (map type_of (map entry_by log)) (map stamp_of (map entry_by log)) 0 p ≡ recent_in since' (map type_of log) (map stamp_of log) 0 p
-      unfolding recent_in is_near OfLog if◌then◌else◌ entry_by
+      unfolding recent_in is_near OfLog when◌then◌else◌ entry_by
       recent_by mark agree p h z =
           fun_ext (λ interval. count_same _ _ (suc p) (λ i k.
           rw (
@@ -225,13 +225,13 @@ module _ (f : ℕ → ℕ) where
           at i = stamp_of (get_or log i past_log)
 
           go : (i interval : ℕ) → i ≤ p → (b : Bool) → eqb (type_of (get_or log i past_log)) 0 ≡ b
-              → (if not b then false else not (exceeds (since (f (at p)) (f (at i))) (interval * 60000))) ≡ (if not b then false else not (exceeds (since' (at p) (at i)) (interval * 60000)))
+              → (when not b then false else not (exceeds (since (f (at p)) (f (at i))) (interval * 60000))) ≡ (when not b then false else not (exceeds (since' (at p) (at i)) (interval * 60000)))
           go i interval k true e = rw (agree i p k h (eqb-true _ 0 e) z)
           go i interval k false e = refl
 
       meets_by : (mark : ℕ) (x : Element) → (asks_frequent x ≡ true → OfLog Agree mark log) → (p : ℕ) → p < min mark (length log)
           → meets since (map entry_by log) x.ty x.filter p ≡ meets since' log x.ty x.filter p
-      unfolding meets meets_at type_meets entry_by if◌then◌else◌
+      unfolding meets meets_at type_meets entry_by when◌then◌else◌
       meets_by mark x agree p h =
           entry-by (λ (e : Entry). meets_at e x.ty recent x.filter) (λ e. refl) log p
           ∙ go (eqb x.ty 0) refl (condition x.filter 4).present refl
@@ -246,7 +246,7 @@ module _ (f : ℕ → ℕ) where
           recent' = recent_in since' (map type_of log) (map stamp_of log) x.ty p
 
           typed : x.ty ≡ 0 → OfLog Agree mark log → (b : Bool) → eqb e.ty x.ty ≡ b
-              → (if not b then false else type_meets x.ty e.body recent x.filter) ≡ (if not b then false else type_meets x.ty e.body recent' x.filter)
+              → (when not b then false else type_meets x.ty e.body recent x.filter) ≡ (when not b then false else type_meets x.ty e.body recent' x.filter)
           typed z a true i = rw z (ap (λ (r : ℕ → ℕ). type_meets 0 e.body r x.filter) (recent_by mark a p h (eqb-true e.ty x.ty i ∙ z)))
           typed z a false i = refl
 

@@ -7,7 +7,7 @@ use mathlib.Core.Bool.{Bool, true, false, not}
 use mathlib.Core.List.{List, [], ◌∷◌, map}
 use mathlib.Core.Option
 use mathlib.Core.Option.{Option, none, some, some-injective}
-use Rattle.laws.specs.Choice.{if◌then◌else◌}
+use Rattle.laws.specs.Choice.{when◌then◌else◌}
 use Rattle.laws.proofs.Choice.{either}
 use Rattle.octets.specs.declared.numbers.Kind.{Kind}
 use Rattle.octets.specs.declared.numbers.Kind.TheVariants.{Event, Diagnostic}
@@ -42,37 +42,37 @@ pub find-map : (f : Requester → Requester) → Keeps f → (s : Address) (rs :
 unfolding find
 find-map f k s [] = refl
 find-map f k s (r ∷ rs) =
-    ap (λ (a : Address). if same s a then some (f r) else find s (map f rs)) (k r).0
-    ∙ ap (λ (o : Option Requester). if same s r.address then some (f r) else o) (find-map f k s rs)
+    ap (λ (a : Address). when same s a then some (f r) else find s (map f rs)) (k r).0
+    ∙ ap (λ (o : Option Requester). when same s r.address then some (f r) else o) (find-map f k s rs)
     ∙ sym (apply_if (Option.map f) (same s r.address) (some r) (find s rs))
 
 module _ (a : Address) (x r : Requester) (keeps : x.address ≡ r.address) where
   pub put_own : (rs : List Requester) → find a rs ≡ some r → find a (put a x rs) ≡ some x
-  unfolding find put if◌then◌else◌
+  unfolding find put when◌then◌else◌
   put_own [] e = cc
   put_own (q ∷ rs) e = go (same a q.address) refl e (put_own rs)
     where
-      go : (t : Bool) → same a q.address ≡ t → (if t then some q else find a rs) ≡ some r → (find a rs ≡ some r → find a (put a x rs) ≡ some x)
-          → find a (if t then x ∷ rs else q ∷ put a x rs) ≡ some x
+      go : (t : Bool) → same a q.address ≡ t → (when t then some q else find a rs) ≡ some r → (find a rs ≡ some r → find a (put a x rs) ≡ some x)
+          → find a (when t then x ∷ rs else q ∷ put a x rs) ≡ some x
       go true p h rest =
           let d : x.address ≡ q.address = keeps ∙ ap (λ (y : Requester). y.address) (sym (some-injective q r h)) in
           rw (d, p)
       go false p h rest = rw (p) (rest h)
 
   pub put_other : (s : Address) → same a s ≡ false → (rs : List Requester) → find a rs ≡ some r → find s (put a x rs) ≡ find s rs
-  unfolding find put if◌then◌else◌
+  unfolding find put when◌then◌else◌
   put_other s n [] e = refl
   put_other s n (q ∷ rs) e = go (same a q.address) refl e (put_other s n rs)
     where
       apart : same a q.address ≡ true → same s q.address ≡ false
       apart p = ap (same s) (sym (same_true a q.address p)) ∙ same_sym s a ∙ n
 
-      go : (t : Bool) → same a q.address ≡ t → (if t then some q else find a rs) ≡ some r → (find a rs ≡ some r → find s (put a x rs) ≡ find s rs)
-          → find s (if t then x ∷ rs else q ∷ put a x rs) ≡ (if same s q.address then some q else find s rs)
+      go : (t : Bool) → same a q.address ≡ t → (when t then some q else find a rs) ≡ some r → (find a rs ≡ some r → find s (put a x rs) ≡ find s rs)
+          → find s (when t then x ∷ rs else q ∷ put a x rs) ≡ (when same s q.address then some q else find s rs)
       go true p h rest =
           let d : x.address ≡ q.address = keeps ∙ ap (λ (y : Requester). y.address) (sym (some-injective q r h)) in
           rw (d, apart p)
-      go false p h rest = ap (λ (o : Option Requester). if same s q.address then some q else o) (rest h)
+      go false p h rest = ap (λ (o : Option Requester). when same s q.address then some q else o) (rest h)
 
 -- ---- what a sender sees
 
@@ -98,24 +98,24 @@ tick_seen k reading v =
 
 pub log_seen : Capacities → ℕ → LoggedEvent → Seen → Seen
 log_seen most reading e v =
-    if not (eqb (log_cause e) 0) then v
+    when not (eqb (log_cause e) 0) then v
     else record { timer = v.timer; identity = v.identity; log = pushed most.events v.log (entry_of v.timer.now reading e); slot = Option.map (log_requester most v.log) v.slot }
 
 unfoldable pub served_seen : Address → Address → (Requester → Served) → Seen → Seen
-served_seen s a serve v = if same a s then on_slot (λ r. (serve r).requester) v else v
+served_seen s a serve v = when same a s then on_slot (λ r. (serve r).requester) v else v
 
 renamed_seen : Address → List Entry → List Listed → Seen → Option (List ℕ) → Seen
 renamed_seen s log l v none = v
 renamed_seen s log l v (some i) = record { timer = v.timer; identity = some i; log = log; slot = find s (map new_requester l) }
 
 pub rename_seen : Capacities → Address → List Entry → List Listed → Seen → Seen
-rename_seen most s log l v = if bad_list most.requesters l then v else renamed_seen s log l v v.identity
+rename_seen most s log l v = when bad_list most.requesters l then v else renamed_seen s log l v v.identity
 
 -- what a call makes of it, the late diagnostics dropped
 unfoldable pub act_seen : Clock → Capacities → Address → Call → Seen → Seen
 act_seen k most s (clock t) v = v
 act_seen k most s (logging t e) v = log_seen most t e v
-act_seen k most s (frame t d a o) v = if is_group d then v else served_seen s a (take_request v.timer.now v.log (read_request most.elements o)) v
+act_seen k most s (frame t d a o) v = when is_group d then v else served_seen s a (take_request v.timer.now v.log (read_request most.elements o)) v
 act_seen k most s (report t a kind b) v = served_seen s a (give_report k.since v.identity v.log kind b) v
 act_seen k most s (roam t l) v = rename_seen most s v.log l v
 act_seen k most s (change t l) v = rename_seen most s [] l v
@@ -176,13 +176,13 @@ seen_log : (most : Capacities) (s : Address) (reading : ℕ) (e : LoggedEvent) (
 unfolding seen log_call log_entry log_seen
 seen_log most s reading e g =
     apply_if (λ (x : Result). seen s x.station) (not (eqb (log_cause e) 0)) _ _
-    ∙ ap (λ (o : Option Requester). if not (eqb (log_cause e) 0) then seen s g else record { timer = g.timer; identity = g.identity; log = pushed most.events g.log (entry_of g.timer.now reading e); slot = o })
+    ∙ ap (λ (o : Option Requester). when not (eqb (log_cause e) 0) then seen s g else record { timer = g.timer; identity = g.identity; log = pushed most.events g.log (entry_of g.timer.now reading e); slot = o })
     (find-map (log_requester most g.log) (log_keeps most g.log) s g.requesters)
 
 module _ (s a : Address) (serve : Requester → Served) (b : List ℕ) (g : Station) (keeps : ServeKeeps serve) where
   seen_found : (o : Option Requester) → find a g.requesters ≡ o → (t : Bool) → same a s ≡ t
-      → seen s (serve_found a serve b g o).station ≡ (if t then on_slot (λ r. (serve r).requester) (seen s g) else seen s g)
-  unfolding seen serve_found with_requester if◌then◌else◌
+      → seen s (serve_found a serve b g o).station ≡ (when t then on_slot (λ r. (serve r).requester) (seen s g) else seen s g)
+  unfolding seen serve_found with_requester when◌then◌else◌
   seen_found none e true p =
       let f : find s g.requesters ≡ none = ap (λ (x : Address). find x g.requesters) (sym (same_true a s p)) ∙ e in
       rw f
@@ -210,7 +210,7 @@ seen_rename : (most : Capacities) (s : Address) (log : List Entry) (l : List Lis
 unfolding rename rename_seen seen
 seen_rename most s log l g =
     apply_if (λ (x : Result). seen s x.station) (bad_list most.requesters l) _ _
-    ∙ ap (λ (v : Seen). if bad_list most.requesters l then seen s g else v) (seen_renamed s log l g g.identity)
+    ∙ ap (λ (v : Seen). when bad_list most.requesters l then seen s g else v) (seen_renamed s log l g g.identity)
 
 seen_act : (k : Clock) (most : Capacities) (s : Address) (c : Call) (g : Station) → seen s (act k.since most c g).station ≡ act_seen k most s c (seen s g)
 unfolding act act_seen seen request_call frame_call report_call
@@ -218,7 +218,7 @@ seen_act k most s (clock t) g = refl
 seen_act k most s (logging t e) g = seen_log most s t e g
 seen_act k most s (frame t d a o) g =
     apply_if (λ (x : Result). seen s x.station) (is_group d) _ _
-    ∙ ap (λ (v : Seen). if is_group d then seen s g else v)
+    ∙ ap (λ (v : Seen). when is_group d then seen s g else v)
     (seen_served s a (take_request g.timer.now g.log (read_request most.elements o)) [] g (take_keeps g.timer.now g.log (read_request most.elements o)))
 seen_act k most s (report t a kind b) g = seen_served s a (give_report k.since g.identity g.log kind b) b g (give_keeps k.since g.identity g.log kind b)
 seen_act k most s (roam t l) g = seen_rename most s g.log l g
@@ -231,11 +231,11 @@ seen_step k most s c g = seen_act k most s c (tick k (reading_of c) g) ∙ ap (a
 -- ---- a call of another sender makes of it what a bare clock reading does
 
 unserved : (s a : Address) (serve : Requester → Served) (v : Seen) → same a s ≡ false → served_seen s a serve v ≡ v
-unfolding served_seen if◌then◌else◌
+unfolding served_seen when◌then◌else◌
 unserved s a serve v e = rw e
 
 pub quiet_step : (k : Clock) (most : Capacities) (s : Address) (c : Call) (v : Seen) → step_seen k most s (quiet s c) v ≡ step_seen k most s c v
-unfolding step_seen sender quiet_for act_seen reading_of if◌then◌else◌
+unfolding step_seen sender quiet_for act_seen reading_of when◌then◌else◌
 quiet_step k most s (clock t) v = refl
 quiet_step k most s (logging t e) v = refl
 quiet_step k most s (frame t d a o) v = go (same a s) refl (is_group d)
@@ -246,7 +246,7 @@ quiet_step k most s (frame t d a o) v = go (same a s) refl (is_group d)
     serve : Requester → Served
     serve = take_request w.timer.now w.log (read_request most.elements o)
 
-    go : (b : Bool) → same a s ≡ b → (h : Bool) → step_seen k most s (if b then frame t d a o else clock t) v ≡ (if is_group d then w else served_seen s a serve w)
+    go : (b : Bool) → same a s ≡ b → (h : Bool) → step_seen k most s (when b then frame t d a o else clock t) v ≡ (when is_group d then w else served_seen s a serve w)
     go true e h = refl
     go false e h = either (λ (x : Seen). w ≡ x) (is_group d) w (served_seen s a serve w) (λ _. refl) (λ _. sym (unserved s a serve w e))
 quiet_step k most s (report t a kind b) v = go (same a s) refl
@@ -257,7 +257,7 @@ quiet_step k most s (report t a kind b) v = go (same a s) refl
     serve : Requester → Served
     serve = give_report k.since w.identity w.log kind b
 
-    go : (x : Bool) → same a s ≡ x → step_seen k most s (if x then report t a kind b else clock t) v ≡ served_seen s a serve w
+    go : (x : Bool) → same a s ≡ x → step_seen k most s (when x then report t a kind b else clock t) v ≡ served_seen s a serve w
     go true e = refl
     go false e = sym (unserved s a serve w e)
 quiet_step k most s (roam t l) v = refl
@@ -275,7 +275,7 @@ served_reply serve b (some r) = record { answer = (serve r).answer; buffer = (se
 -- of a call that has a sender
 unfoldable pub seen_reply : Clock → Capacities → Call → Seen → Reply
 seen_reply k most (frame t d a o) v =
-    if is_group d then record { answer = refused_for group_destination; buffer = [] }
+    when is_group d then record { answer = refused_for group_destination; buffer = [] }
     else served_reply (take_request v.timer.now v.log (read_request most.elements o)) [] v.slot
 seen_reply k most (report t a kind b) v = served_reply (give_report k.since v.identity v.log kind b) b v.slot
 seen_reply k most (clock t) v = record { answer = accepted; buffer = [] }
@@ -297,7 +297,7 @@ module _ (k : Clock) (most : Capacities) (t : ℕ) (a : Address) where
   unfolding act request_call frame_call serve_listed seen_reply seen
   frame-reply d o g =
       apply_if reply_of (is_group d) _ _
-      ∙ ap (λ (x : Reply). if is_group d then record { answer = refused_for group_destination; buffer = [] } else x)
+      ∙ ap (λ (x : Reply). when is_group d then record { answer = refused_for group_destination; buffer = [] } else x)
       (reply-found a (take_request g.timer.now g.log (read_request most.elements o)) [] g (find a g.requesters))
 
   report-reply : (kind : Kind) (b : List ℕ) (g : Station) → reply_of (act k.since most (report t a kind b) g) ≡ seen_reply k most (report t a kind b) (seen a g)

@@ -9,7 +9,7 @@ use lib.ListN.{length, drop}
 use lib.Dec.{ltb, eqb}
 use borrow.Author.Tests.{not-false, eqb-true}
 use Rattle.laws.specs.Members.{Among, first, later, All, nil, also, any}
-use Rattle.laws.specs.Choice.{if◌then◌else◌}
+use Rattle.laws.specs.Choice.{when◌then◌else◌}
 use Rattle.laws.proofs.Members.{all_end}
 use Rattle.laws.proofs.Choice.{either, never}
 use Rattle.events.specs.declared.Entry.{Entry}
@@ -69,11 +69,11 @@ module _ (f : Requester → Requester) (keeps : Keeps f) where
   forms-kept (r ∷ rs) (also p ps) = also (ap is_form (keeps r).1 ∙ p) (forms-kept rs ps)
 
 pub forms-found : (a : Address) (rs : List Requester) (r : Requester) → All Follows rs → find a rs ≡ some r → Follows r
-unfolding find if◌then◌else◌
+unfolding find when◌then◌else◌
 forms-found a [] r nil e = never cc
 forms-found a (q ∷ rs) r (also p ps) e = go (same a q.address) e (forms-found a rs r ps)
   where
-    go : (b : Bool) → (if b then some q else find a rs) ≡ some r → (find a rs ≡ some r → Follows r) → Follows r
+    go : (b : Bool) → (when b then some q else find a rs) ≡ some r → (find a rs ≡ some r → Follows r) → Follows r
     go true e f = rw (← some-injective q r e) p
     go false e f = f e
 
@@ -84,11 +84,11 @@ forms-put a x h (r ∷ rs) (also p ps) = either (All Follows) (same a r.address)
 
 -- a list with no bad entry names forms
 forms-named : (l : List Listed) → any bad_listed l ≡ false → All Follows (map new_requester l)
-unfolding any new_requester bad_listed if◌then◌else◌
+unfolding any new_requester bad_listed when◌then◌else◌
 forms-named [] e = nil
 forms-named (x ∷ l) e = go (is_group (listed_address x)) (is_form (listed_form x)) refl (any bad_listed l) refl e (forms-named l)
   where
-    go : (a b : Bool) → is_form (listed_form x) ≡ b → (c : Bool) → any bad_listed l ≡ c → ((if a then true else not b) || c) ≡ false → (any bad_listed l ≡ false → All Follows (map new_requester l)) → All Follows (map new_requester (x ∷ l))
+    go : (a b : Bool) → is_form (listed_form x) ≡ b → (c : Bool) → any bad_listed l ≡ c → ((when a then true else not b) || c) ≡ false → (any bad_listed l ≡ false → All Follows (map new_requester l)) → All Follows (map new_requester (x ∷ l))
     go true b p c q h f = never (sym h)
     go false true p true q h f = never (sym h)
     go false true p false q h f = also p (f q)
@@ -96,10 +96,10 @@ forms-named (x ∷ l) e = go (is_group (listed_address x)) (is_form (listed_form
 
 -- a list that is taken has none
 good-list : (most : ℕ) (l : List Listed) → bad_list most l ≡ false → any bad_listed l ≡ false
-unfolding bad_list if◌then◌else◌
+unfolding bad_list when◌then◌else◌
 good-list most l = go (eqb (length l) 0) (ltb most (length l)) (repeated l)
   where
-    go : (a b c : Bool) → (if a then true else if b then true else if c then true else any bad_listed l) ≡ false → any bad_listed l ≡ false
+    go : (a b c : Bool) → (when a then true else when b then true else when c then true else any bad_listed l) ≡ false → any bad_listed l ≡ false
     go true b c h = never (sym h)
     go false true c h = never (sym h)
     go false false true h = never (sym h)

@@ -2,7 +2,7 @@
 -- Assumes nothing.
 use mathlib.Core.Path.{refl}
 use Rattle.laws.specs.Members.{any}
-use Rattle.laws.specs.Choice.{if◌then◌else◌}
+use Rattle.laws.specs.Choice.{when◌then◌else◌}
 use Rattle.laws.specs.Walk.{repeat_while}
 use Rattle.octets.specs.Fields.{octets_at}
 use Rattle.octets.specs.Addresses.{same}
@@ -24,5 +24,5 @@ use Rattle.model.specs.Runs.{run}
 use Rattle.model.specs.Starred.{cases, outstanding, some_identity, some_console, waits, slow_transition, slow, least_transition, equal, case_holds, all_hold, Starred}
 
 pub starred : Starred
-unfolding all_hold case_holds cases outstanding some_identity some_console waits slow_transition slow least_transition equal if◌then◌else◌ repeat_while piece_end whole_step Subelements-step walk subelements_of any bad_token with_element own_request_step element_step walk_elements frame_kind frame_cause request_of header_cause read_request length_of body_octet body_at transition_body entry_with asked transition_meets type_meets meets_at meets stands pass_row good_from good_identity elapsed_at repeated bad_listed bad_list new_requester find put replace diagnostic_treatment is_late on_time unless_over drop_late diagnostics_of take_diagnostics setup timed tick_requester without_late with_requester serve_found serve_listed take_kind take_request request_call frame_call act reading_of step run same octets_at
+unfolding all_hold case_holds cases outstanding some_identity some_console waits slow_transition slow least_transition equal when◌then◌else◌ repeat_while piece_end whole_step Subelements-step walk subelements_of any bad_token with_element own_request_step element_step walk_elements frame_kind frame_cause request_of header_cause read_request length_of body_octet body_at transition_body entry_with asked transition_meets type_meets meets_at meets stands pass_row good_from good_identity elapsed_at repeated bad_listed bad_list new_requester find put replace diagnostic_treatment is_late on_time unless_over drop_late diagnostics_of take_diagnostics setup timed tick_requester without_late with_requester serve_found serve_listed take_kind take_request request_call frame_call act reading_of step run same octets_at
 starred = refl

@@ -10,7 +10,7 @@ use mathlib.Core.Option.{Option, none, some}
 use native.Mathlib.Omega.{arith}
 use lib.Dec.{eqb}
 use lib.ListN.{length, drop}
-use Rattle.laws.specs.Choice.{if◌then◌else◌}
+use Rattle.laws.specs.Choice.{when◌then◌else◌}
 use Rattle.laws.specs.Members.{All, nil, also}
 use Rattle.laws.proofs.Choice.{either, never}
 use Rattle.laws.proofs.Walk.{and_first}
@@ -130,7 +130,7 @@ module _ (most : Capacities) (kind : Kind) (s : Address) (n : ℕ) (u : Station)
       (λ _. found_fate a (take_request u.timer.now u.log q) (take_keeps u.timer.now u.log q) [] ends (λ _. 0)
       (λ x e. (rw e (and-false (is_accepted x)), refl)) (λ e r p. rw e (take_fate _ n u.timer.now u.log q kind r p)) refl refl (find a u.requesters) refl)
   act_fate since (report t a asked b) =
-      let frames : Answer → ℕ = λ (x : Answer). if same a s && same_kind asked kind then frames_in x else 0 in
+      let frames : Answer → ℕ = λ (x : Answer). when same a s && same_kind asked kind then frames_in x else 0 in
       found_fate a (give_report since u.identity u.log asked b) (give_keeps since u.identity u.log asked b) b (λ _. false) frames
       (λ x e. (refl, either (λ (m : ℕ). m ≡ 0) _ _ _ (λ h. never (sym e ∙ and_first _ _ h)) (λ _. refl)))
       (λ e r p. rw e (give_fate since u.identity u.log b n asked kind r p)) refl (either (λ (m : ℕ). m ≡ 0) _ 0 0 (λ _. refl) (λ _. refl)) (find a u.requesters) refl

@@ -6,7 +6,7 @@ use mathlib.Core.Path.{◌≡◌, refl}
 use mathlib.Core.List.{List, [], ◌∷◌, ◌++◌}
 use mathlib.Core.Option.{none, some}
 use lib.ListN.{replicate}
-use Rattle.laws.specs.Choice.{if◌then◌else◌}
+use Rattle.laws.specs.Choice.{when◌then◌else◌}
 use Rattle.laws.specs.Members.{any}
 use Rattle.laws.specs.Walk.{repeat_while}
 use Rattle.laws.proofs.Choice.{never}
@@ -60,7 +60,7 @@ record TwoFrames (kind : Kind) (g : Station) (o : List ℕ) : Type 0 where
 events : TwoFrames Event
     (some_gate elapsed_clock (logging 10 (transition slow_transition) ∷ logging 11 (transition slow_transition) ∷ logging 12 (transition slow_transition) ∷ logging 13 (transition slow_transition) ∷ []))
     (10 ∷ 0 ∷ 7 ∷ 78 ∷ 3 ∷ 5 ∷ 0 ∷ 9 ∷ 78 ∷ 3 ∷ 6 ∷ 0 ∷ 9 ∷ [])
-unfolding some_identity some_console slow_transition if◌then◌else◌ repeat_while same octets_at piece_end in_range good_date good_clock good_time whole_step Subelements-step walk subelements_of any bad_token with_element own_request_step element_step walk_elements frame_kind frame_cause request_of header_cause read_request pushed transition_body entry_with last_of asked transition_meets type_meets meets_at meets stands pass_row good_from good_identity report_element event_element repeated bad_listed bad_list new_requester find put dialog_of dialog_in replace fill_with fill next_frame event_treatment open_events take_events next_event_place gave without report_front treat_front next_from next_event unless_done drop_late elapsed_at setup timed tick_requester without_late log_requester log_entry log_cause log_call with_requester serve_found serve_listed take_kind take_request request_call frame_call give_events if_outstanding give_kind give_report report_call act reading_of step run EachCall frames_in frames_for frames_given
+unfolding some_identity some_console slow_transition when◌then◌else◌ repeat_while same octets_at piece_end in_range good_date good_clock good_time whole_step Subelements-step walk subelements_of any bad_token with_element own_request_step element_step walk_elements frame_kind frame_cause request_of header_cause read_request pushed transition_body entry_with last_of asked transition_meets type_meets meets_at meets stands pass_row good_from good_identity report_element event_element repeated bad_listed bad_list new_requester find put dialog_of dialog_in replace fill_with fill next_frame event_treatment open_events take_events next_event_place gave without report_front treat_front next_from next_event unless_done drop_late elapsed_at setup timed tick_requester without_late log_requester log_entry log_cause log_call with_requester serve_found serve_listed take_kind take_request request_call frame_call give_events if_outstanding give_kind give_report report_call act reading_of step run EachCall frames_in frames_for frames_given
 events = record { opens = record { was-not = λ e. never cc; is-now = refl }; stays = ((refl, refl), tt); given = refl; over = refl }
 
 -- two elements, for an identity of 167 octets each
@@ -68,7 +68,7 @@ long_identity : List ℕ
 long_identity = 13 ∷ 3 ∷ 1 ∷ 2 ∷ 3 ∷ 11 ∷ 151 ∷ (replicate 151 0 ++ (12 ∷ 1 ∷ 5 ∷ 14 ∷ 1 ∷ 6 ∷ 9 ∷ 1 ∷ 7 ∷ []))
 
 diagnostics : TwoFrames Diagnostic (setup standard long_identity some_list).station (10 ∷ 2 ∷ 7 ∷ 80 ∷ 4 ∷ 5 ∷ 1 ∷ 9 ∷ 0 ∷ 80 ∷ 4 ∷ 6 ∷ 1 ∷ 9 ∷ 0 ∷ [])
-unfolding long_identity some_console if◌then◌else◌ repeat_while same octets_at piece_end whole_step Subelements-step walk subelements_of any bad_token with_element own_request_step element_step walk_elements frame_kind frame_cause request_of header_cause read_request stands pass_row good_from good_identity report_element repeated bad_listed bad_list new_requester find put dialog_of dialog_in replace fill_with fill next_frame diagnostic_treatment is_late on_time unless_over drop_late diagnostics_of take_diagnostics diagnostic_report next_diagnostic elapsed_at setup timed tick_requester without_late with_requester serve_found serve_listed take_kind take_request request_call frame_call give_diagnostics if_outstanding octets_of give_kind give_report report_call act reading_of step run EachCall frames_in frames_for frames_given
+unfolding long_identity some_console when◌then◌else◌ repeat_while same octets_at piece_end whole_step Subelements-step walk subelements_of any bad_token with_element own_request_step element_step walk_elements frame_kind frame_cause request_of header_cause read_request stands pass_row good_from good_identity report_element repeated bad_listed bad_list new_requester find put dialog_of dialog_in replace fill_with fill next_frame diagnostic_treatment is_late on_time unless_over drop_late diagnostics_of take_diagnostics diagnostic_report next_diagnostic elapsed_at setup timed tick_requester without_late with_requester serve_found serve_listed take_kind take_request request_call frame_call give_diagnostics if_outstanding octets_of give_kind give_report report_call act reading_of step run EachCall frames_in frames_for frames_given
 diagnostics = record { opens = record { was-not = λ e. never cc; is-now = refl }; stays = ((refl, refl), tt); given = refl; over = refl }
 
 -- an event request with no element: one frame, header_only; on a gate of one event and one element that is the bound
@@ -79,5 +79,5 @@ header_only : let h = (step elapsed_clock tiny (setup tiny some_identity some_li
     (outstanding_dialog Event some_console h ≡ some 7)
     × (frames_given elapsed_clock tiny Event some_console h (reports Event ∷ []) ≡ 1)
     × (outstanding_dialog Event some_console (run elapsed_clock tiny h (reports Event ∷ [])) ≡ none)
-unfolding tiny some_identity some_console if◌then◌else◌ repeat_while same octets_at piece_end walk_elements frame_kind frame_cause request_of header_cause read_request stands pass_row good_from good_identity repeated bad_listed bad_list new_requester find put any dialog_of dialog_in replace fill_with fill next_frame open_events take_events next_from next_event unless_done drop_late elapsed_at setup timed tick_requester without_late with_requester serve_found serve_listed take_kind take_request request_call frame_call give_events if_outstanding give_kind give_report report_call act reading_of step run frames_in frames_for frames_given
+unfolding tiny some_identity some_console when◌then◌else◌ repeat_while same octets_at piece_end walk_elements frame_kind frame_cause request_of header_cause read_request stands pass_row good_from good_identity repeated bad_listed bad_list new_requester find put any dialog_of dialog_in replace fill_with fill next_frame open_events take_events next_from next_event unless_done drop_late elapsed_at setup timed tick_requester without_late with_requester serve_found serve_listed take_kind take_request request_call frame_call give_events if_outstanding give_kind give_report report_call act reading_of step run frames_in frames_for frames_given
 header_only = (refl, refl, refl)

@@ -3,7 +3,7 @@
 use Rattle.std.specs.Prelude.{ℕ, ◌*◌, Bool, true, false, List, [], ◌∷◌, map, eqb, take}
 use Rattle.std.proofs.Math.Option.{Option, none, some}
 use Rattle.laws.specs.Members.{any}
-use Rattle.laws.specs.Choice.{if◌then◌else◌}
+use Rattle.laws.specs.Choice.{when◌then◌else◌}
 use Rattle.units.specs.Time.{exceeds}
 use Rattle.octets.specs.declared.numbers.Kind.TheVariants.{Diagnostic as KindDiagnostic}
 use Rattle.octets.specs.Numbers.{successful, incapable}
@@ -19,7 +19,7 @@ use Rattle.reports.specs.Reports.{report_element}
 
 -- "type 0 (Cancel)"; "Diagnostic type 1 gives Successful with the identity; 2 to 255 give Incapable"
 unfoldable pub diagnostic_treatment : ℕ → Treatment
-diagnostic_treatment ty = if eqb ty 0 then Cancel else if eqb ty 1 then Identity else Incapable
+diagnostic_treatment ty = when eqb ty 0 then Cancel else when eqb ty 1 then Identity else Incapable
 
 -- ---- the late drop
 
@@ -30,7 +30,7 @@ is_late since now accepted x = exceeds (since now accepted) (x.timeout * 1000)
 unfoldable pub on_time : (ℕ → ℕ → ℕ) → ℕ → ℕ → List Diagnostic → List Diagnostic
 on_time since now accepted [] = []
 on_time since now accepted (x ∷ xs) =
-    if is_late since now accepted x then on_time since now accepted xs
+    when is_late since now accepted x then on_time since now accepted xs
     else x ∷ on_time since now accepted xs
 
 -- "A diagnostic request with none left is over."
@@ -64,7 +64,7 @@ diagnostics_of q = map diagnostic_of (take q.count q.elements)
 -- rule"
 unfoldable pub take_diagnostics : ℕ → Request → Option DiagnosticRequest → Option DiagnosticRequest
 take_diagnostics now q o =
-    if holds_cancel (diagnostics_of q) then none
+    when holds_cancel (diagnostics_of q) then none
     else replace (λ r. eqb q.dialog r.dialog) (unless_over q.dialog now (diagnostics_of q)) o
 
 -- ---- a report

@@ -2,7 +2,7 @@
 -- Assumes nothing.
 use Rattle.std.specs.Prelude.{ℕ, zero, suc, ◌-◌, List, [], ◌∷◌, ◌++◌, leb, length}
 use Rattle.std.proofs.Math.Option.{Option, none, some}
-use Rattle.laws.specs.Choice.{if◌then◌else◌}
+use Rattle.laws.specs.Choice.{when◌then◌else◌}
 use Rattle.octets.specs.Numbers.{category}
 
 -- octets to write, and what is left of a request R after them
@@ -19,7 +19,7 @@ before o p = record { octets = o ++ p.octets; rest = p.rest }
 -- the next element of the request r, if there is one, and those behind it: written "while each fits"
 unfoldable pub fill_with : {R : Type 0} → R → ℕ → (Piece R → Piece R) → Option (Piece R) → Piece R
 fill_with r room behind none = nothing_more r
-fill_with r room behind (some p) = if leb (length p.octets) room then before p.octets (behind p) else nothing_more r
+fill_with r room behind (some p) = when leb (length p.octets) room then before p.octets (behind p) else nothing_more r
 
 -- "whole elements while each fits; each is written behind the one before it". The fuel is at least the number of elements that fit
 unfoldable pub fill : {R : Type 0} → (R → Option (Piece R)) → ℕ → ℕ → R → Piece R

@@ -4,7 +4,7 @@
 -- Assumes nothing.
 use Rattle.std.specs.Prelude.{ℕ, ◌<◌, ◌≡◌, Bool, true, false, List, [], ◌∷◌, ◌++◌, map, length}
 use Rattle.std.proofs.Math.Option.{Option, none, some}
-use Rattle.laws.specs.Choice.{if◌then◌else◌}
+use Rattle.laws.specs.Choice.{when◌then◌else◌}
 use Rattle.units.specs.Time.{turn, elapsed_top}
 use Rattle.octets.specs.Addresses.{same}
 use Rattle.model.specs.Clocks.{Clock, elapsed_clock}
@@ -16,7 +16,7 @@ use Rattle.model.specs.Runs.{run, Always, sender, Reply, reply, to_sender}
 -- their arguments, refused ones too"
 unfoldable pub quiet_for : Address → Call → Option Address → Call
 quiet_for s c none = c
-quiet_for s c (some a) = if same a s then c else clock (reading_of c)
+quiet_for s c (some a) = when same a s then c else clock (reading_of c)
 
 abbrev pub quiet : Address → Call → Call
 quiet s c = quiet_for s c (sender c)
@@ -40,7 +40,7 @@ is_accepted (turned_away r) = false
 
 -- the origin after one more call, which was answered so
 unfoldable pub origin_after : Origin → Call → Answer → Origin
-origin_after o (change t l) a = if is_accepted a then from l else longer o (change t l)
+origin_after o (change t l) a = when is_accepted a then from l else longer o (change t l)
 origin_after o (clock t) a = longer o (clock t)
 origin_after o (logging t e) a = longer o (logging t e)
 origin_after o (frame t d s b) a = longer o (frame t d s b)

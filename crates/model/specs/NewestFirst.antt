@@ -4,7 +4,7 @@
 use Rattle.std.specs.Prelude.{ℕ, min, ◌≡◌, false, length, get_or, take, drop}
 use mathlib.Core.List.{List, [], ◌∷◌, ◌++◌, map, flatten}
 use Rattle.std.proofs.Math.Option.{Option, none, some}
-use Rattle.laws.specs.Choice.{if◌then◌else◌}
+use Rattle.laws.specs.Choice.{when◌then◌else◌}
 use Rattle.laws.specs.Members.{All}
 use Rattle.octets.specs.declared.numbers.Kind.{Kind}
 use Rattle.octets.specs.declared.numbers.Kind.TheVariants.{Event, Diagnostic}
@@ -68,7 +68,7 @@ unfoldable pub events_of : Address → Call → Reply → List ℕ
 events_of s (clock t) r = []
 events_of s (logging t e) r = []
 events_of s (frame t d a o) r = []
-events_of s (report t a kind b) r = if same a s then events_in kind r else []
+events_of s (report t a kind b) r = when same a s then events_in kind r else []
 events_of s (roam t l) r = []
 events_of s (change t l) r = []
 

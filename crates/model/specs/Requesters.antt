@@ -3,7 +3,7 @@
 use Rattle.std.specs.Prelude.{ℕ, Bool, true, false, not, ◌||◌, List, [], ◌∷◌, eqb, ltb, length}
 use Rattle.std.proofs.Math.Option.{Option, none, some}
 use Rattle.laws.specs.Members.{any}
-use Rattle.laws.specs.Choice.{if◌then◌else◌}
+use Rattle.laws.specs.Choice.{when◌then◌else◌}
 use Rattle.octets.specs.Addresses.{same, is_group}
 use Rattle.events.specs.Times.{draft, is_form}
 use Rattle.model.specs.Model.{Address, Listed, listed_address, listed_form, Requester}
@@ -15,14 +15,14 @@ repeated (x ∷ l) = any (λ y. same (listed_address x) (listed_address y)) l ||
 
 -- "a group address", and document 02 (g): "a form number other than 0 or 1"
 unfoldable pub bad_listed : Listed → Bool
-bad_listed x = if is_group (listed_address x) then true else not (is_form (listed_form x))
+bad_listed x = when is_group (listed_address x) then true else not (is_form (listed_form x))
 
 -- "Console list empty, over the most, repeated, or with a group address" (15), or such a form
 unfoldable pub bad_list : ℕ → List Listed → Bool
 bad_list most l =
-    if eqb (length l) 0 then true
-    else if ltb most (length l) then true
-    else if repeated l then true
+    when eqb (length l) 0 then true
+    else when ltb most (length l) then true
+    else when repeated l then true
     else any bad_listed l
 
 -- a requester just named: it has no request
@@ -32,7 +32,7 @@ new_requester x = record { address = listed_address x; form = listed_form x; eve
 -- the requester of an address: the first match
 unfoldable pub find : Address → List Requester → Option Requester
 find a [] = none
-find a (r ∷ rs) = if same a r.address then some r else find a rs
+find a (r ∷ rs) = when same a r.address then some r else find a rs
 
 -- the form that it follows; where there is none, the draft's
 unfoldable pub form_in : Option Requester → ℕ
@@ -45,4 +45,4 @@ form_of a rs = form_in (find a rs)
 -- x in the place of the requester that an address finds
 unfoldable pub put : Address → Requester → List Requester → List Requester
 put a x [] = []
-put a x (r ∷ rs) = if same a r.address then x ∷ rs else r ∷ put a x rs
+put a x (r ∷ rs) = when same a r.address then x ∷ rs else r ∷ put a x rs

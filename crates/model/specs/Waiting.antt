@@ -3,7 +3,7 @@
 -- Assumes nothing.
 use Rattle.std.specs.Prelude.{ℕ, ◌+◌, ◌*◌, ◌≤◌, ◌<◌, ◌≡◌, ◌⊎◌, Bool, true, false, not, ◌&&◌, ◌||◌, List, [], ◌∷◌, ◌++◌, eqb}
 use Rattle.std.proofs.Math.Option.{none, some}
-use Rattle.laws.specs.Choice.{if◌then◌else◌}
+use Rattle.laws.specs.Choice.{when◌then◌else◌}
 use Rattle.laws.specs.Members.{All}
 use Rattle.octets.specs.declared.numbers.Kind.{Kind}
 use Rattle.octets.specs.declared.numbers.Kind.TheVariants.{Event, Diagnostic}
@@ -51,7 +51,7 @@ unfoldable pub frames_for : Kind → Address → Call → Answer → ℕ
 frames_for kind s (clock t) x = 0
 frames_for kind s (logging t e) x = 0
 frames_for kind s (frame t d a o) x = 0
-frames_for kind s (report t a asked b) x = if same a s && same_kind asked kind then frames_in x else 0
+frames_for kind s (report t a asked b) x = when same a s && same_kind asked kind then frames_in x else 0
 frames_for kind s (roam t l) x = 0
 frames_for kind s (change t l) x = 0
 

@@ -6,7 +6,7 @@ use mathlib.Core.List.{List, ◌++◌}
 use lib.ListN.{length, get_or, drop}
 use borrow.Author.Tests.{le-ltb, ltb-false}
 use native.Mathlib.Omega.{arith}
-use Rattle.laws.specs.Choice.{if◌then◌else◌}
+use Rattle.laws.specs.Choice.{when◌then◌else◌}
 use Rattle.laws.proofs.Choice.{either}
 use Rattle.laws.proofs.Parts.{stands_at}
 use Rattle.octets.specs.Elements.{framed, piece_end}
@@ -24,6 +24,6 @@ piece_ends s at end =
 
 -- one that stands there whole
 pub piece_stands : (s : List ℕ) (at end id : ℕ) (b r : List ℕ) → drop at s ≡ framed id b ++ r → at + 2 + length b ≤ end → piece_end s at end ≡ at + 2 + length b
-unfolding piece_end if◌then◌else◌
+unfolding piece_end when◌then◌else◌
 piece_stands s at end id b r h fits =
     rw (le-ltb end (at + 2) (omega arith), stands_at s at (framed id b) r h 1 0, le-ltb end (at + 2 + length b) fits)

@@ -8,7 +8,7 @@ use native.Mathlib.Omega.{arith}
 use lib.ListN.{length}
 use lib.Dec.{eqb}
 use borrow.Author.Tests.{le-ltb, ltb-false, eq-eqb}
-use Rattle.laws.specs.Choice.{if◌then◌else◌}
+use Rattle.laws.specs.Choice.{when◌then◌else◌}
 use Rattle.laws.proofs.Choice.{either}
 use Rattle.octets.specs.declared.numbers.Kind.{Kind}
 use Rattle.octets.specs.declared.numbers.Kind.TheVariants.{Event, Diagnostic}
@@ -23,12 +23,12 @@ head-length s action =
 
 module _ (dialog : ℕ) (o : List ℕ) where
   pub head-accepted : (action : ℕ) → 3 + length o ≤ longest_frame → frame_cause (category ∷ action ∷ dialog ∷ o) action ≡ 0
-  unfolding frame_cause if◌then◌else◌
+  unfolding frame_cause when◌then◌else◌
   head-accepted action fits =
       rw (le-ltb (suc (suc (suc (length o)))) 3 (omega arith), le-ltb longest_frame (suc (suc (suc (length o)))) (omega arith), eq-eqb action action refl)
 
   -- the actions of requests, or of reports
   pub head_kind : (action : Kind → ℕ) → eqb (action Event) (action Diagnostic) ≡ false → (kind : Kind) → frame_kind (category ∷ action kind ∷ dialog ∷ o) (action Diagnostic) ≡ kind
-  unfolding frame_kind if◌then◌else◌
+  unfolding frame_kind when◌then◌else◌
   head_kind action other Event = rw other
   head_kind action other Diagnostic = rw (eq-eqb (action Diagnostic) (action Diagnostic) refl)

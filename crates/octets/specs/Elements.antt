@@ -1,7 +1,7 @@
 -- Document 01: "Elements follow: ID, length, body." Subelements have the same form.
 -- Assumes nothing.
 use Rattle.std.specs.Prelude.{ℕ, ◌+◌, List, ◌∷◌, ltb, length, get_or}
-use Rattle.laws.specs.Choice.{if◌then◌else◌}
+use Rattle.laws.specs.Choice.{when◌then◌else◌}
 use Rattle.laws.specs.Buffers.{pieces}
 
 abbrev pub framed : ℕ → List ℕ → List ℕ
@@ -10,8 +10,8 @@ framed id body = id ∷ length body ∷ body
 -- where the one at a position ends; 0 where its "header or body passes the end"
 unfoldable pub piece_end : List ℕ → ℕ → ℕ → ℕ
 piece_end s at end =
-    if ltb end (at + 2) then 0
-    else if ltb end (at + 2 + get_or s (at + 1) 0) then 0
+    when ltb end (at + 2) then 0
+    else when ltb end (at + 2 + get_or s (at + 1) 0) then 0
     else at + 2 + get_or s (at + 1) 0
 
 -- a list of subelements, and its octets

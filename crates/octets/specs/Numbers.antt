@@ -1,7 +1,7 @@
 -- Document 01, "Frames and elements": the numbers of frames, elements and statuses. src/numbers.rt has them under the same names.
 -- Assumes nothing.
 use Rattle.std.specs.Prelude.{ℕ, eqb}
-use Rattle.laws.specs.Choice.{if◌then◌else◌}
+use Rattle.laws.specs.Choice.{when◌then◌else◌}
 use Rattle.octets.specs.declared.numbers.Kind.{Kind}
 use Rattle.octets.specs.declared.numbers.Kind.TheVariants.{Event, Diagnostic}
 
@@ -11,7 +11,7 @@ category = 10
 
 -- the kind of a number, where one stands for it: 0 is an event's
 abbrev pub kind_of : ℕ → Kind
-kind_of n = if eqb n 0 then Event else Diagnostic
+kind_of n = when eqb n 0 then Event else Diagnostic
 
 -- "Actions: 0 Event Request, 1 Event Report, 2 Diagnostic Request, 3 Diagnostic Report."
 abbrev pub request_action : Kind → ℕ

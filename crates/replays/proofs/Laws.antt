@@ -8,7 +8,7 @@ use native.Mathlib.Omega.{arith}
 use lib.Dec.{leb}
 use lib.ListN.{length, take, drop, length-take, length-drop, drop_of_length-le}
 use borrow.Author.Tests.{le-leb, lt-ltb, le-ltb, leb-true, leb-false}
-use Rattle.laws.specs.Choice.{if◌then◌else◌}
+use Rattle.laws.specs.Choice.{when◌then◌else◌}
 use Rattle.laws.proofs.Arrays.{take_min}
 use Rattle.laws.proofs.Walk.{Rest, start, done, again}
 use Rattle.model.specs.Model.{Station, Result, standard}
@@ -46,7 +46,7 @@ abbrev pub Replaying : List ℕ → ℕ → Station → Type 0
 Replaying s at g = Rest (λ (w : Replay). whole_record s w.at) (replay_step s) (replay_trace s) (length s - at) (replayed at g)
 
 record_past : (s : List ℕ) (at : ℕ) → length s ≤ at → record_end s at ≡ 0
-unfolding record_end if◌then◌else◌
+unfolding record_end when◌then◌else◌
 record_past s at h = rw (le-leb (length s) at h)
 
 module _ (s : List ℕ) where

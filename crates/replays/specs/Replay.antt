@@ -1,7 +1,7 @@
 -- What the records of a trace call, in the model's words: the station after each, and how far they reach; and what `explain` prints.
 -- Assumes nothing.
 use Rattle.std.specs.Prelude.{ℕ, ◌-◌, List, [], eqb, ltb, length, get_or, take, drop, replicate}
-use Rattle.laws.specs.Choice.{if◌then◌else◌}
+use Rattle.laws.specs.Choice.{when◌then◌else◌}
 use Rattle.laws.specs.Walk.{repeat_while}
 use Rattle.units.specs.Time.{elapsed_since}
 use Rattle.events.specs.Loggings.{transition, rsna, peer_link}
@@ -67,15 +67,15 @@ listed_at s at = let c = reader_fields s (fields_of s at) in frame_listing c.for
 -- the station after a record, by its number; the console's records and an explanation touch no station
 unfoldable pub station_after : List ℕ → ℕ → Station → Station
 station_after s at g =
-    if eqb (get_or s at 0) 0 then (setup_at s at).station
-    else if eqb (get_or s at 0) 1 then (step elapsed_clock standard g (clock_at s at)).station
-    else if eqb (get_or s at 0) 2 then (step elapsed_clock standard g (log_transition_at s at)).station
-    else if eqb (get_or s at 0) 3 then (step elapsed_clock standard g (frame_at s at)).station
-    else if eqb (get_or s at 0) 4 then (step elapsed_clock standard g (report_at s at)).station
-    else if eqb (get_or s at 0) 5 then (step elapsed_clock standard g (roam_at s at)).station
-    else if eqb (get_or s at 0) 6 then (step elapsed_clock standard g (change_at s at)).station
-    else if eqb (get_or s at 0) 7 then (step elapsed_clock standard g (log_rsna_at s at)).station
-    else if eqb (get_or s at 0) 8 then (step elapsed_clock standard g (log_peer_link_at s at)).station
+    when eqb (get_or s at 0) 0 then (setup_at s at).station
+    else when eqb (get_or s at 0) 1 then (step elapsed_clock standard g (clock_at s at)).station
+    else when eqb (get_or s at 0) 2 then (step elapsed_clock standard g (log_transition_at s at)).station
+    else when eqb (get_or s at 0) 3 then (step elapsed_clock standard g (frame_at s at)).station
+    else when eqb (get_or s at 0) 4 then (step elapsed_clock standard g (report_at s at)).station
+    else when eqb (get_or s at 0) 5 then (step elapsed_clock standard g (roam_at s at)).station
+    else when eqb (get_or s at 0) 6 then (step elapsed_clock standard g (change_at s at)).station
+    else when eqb (get_or s at 0) 7 then (step elapsed_clock standard g (log_rsna_at s at)).station
+    else when eqb (get_or s at 0) 8 then (step elapsed_clock standard g (log_peer_link_at s at)).station
     else g
 
 -- how far the records reach, and the station after them
@@ -108,9 +108,9 @@ between from to s = spanned s (record { from = from; to = to })
 unfoldable pub explained_line : List ℕ → List ℕ → List ℕ
 explained_line s trace =
     let w = replay_trace (between 0 longest_trace trace) in
-    if ltb w.at (length trace) then trace_refusal_line w.at else explanation_line (explained_at s 0 w.station)
+    when ltb w.at (length trace) then trace_refusal_line w.at else explanation_line (explained_at s 0 w.station)
 
 -- of an input, which has the record's number in front: "reads the same fields and then a trace"; "if its own fields are cut or the length is
 -- over 4,096 it prints `trace refused at 0`"
 unfoldable pub explain_line : List ℕ → List ℕ
-explain_line s = if eqb (record_end s 0) 0 then trace_refusal_line 0 else explained_line s (between (record_end s 0) (length s) s)
+explain_line s = when eqb (record_end s 0) 0 then trace_refusal_line 0 else explained_line s (between (record_end s 0) (length s) s)

@@ -13,7 +13,7 @@ use lib.ListN.{length, take, drop, length-append, length-drop, take-append-drop}
 use lib.Seq.{take_at, drop_at, length-take-le}
 use borrow.Author.Tests.{le-leb, lt-leb, leb-true, leb-false}
 use borrow.Rule.Slice.PartMut.{put_mid}
-use Rattle.laws.specs.Choice.{if◌then◌else◌}
+use Rattle.laws.specs.Choice.{when◌then◌else◌}
 use Rattle.laws.specs.Buffers.{onto, WrittenBuffer, wrote, put_front}
 use Rattle.laws.proofs.Buffers.{length-onto, lent_length, lent, put_front-fits, put_front-short}
 use Rattle.octets.specs.Numbers.{category}
@@ -91,7 +91,7 @@ module _ {R : Type 0} {next : R → Option (Piece R)} {q : R} {s buf : List ℕ}
         go false h = omega (arith, filling_part, leb-false (length p.octets) (length (take (length buf - at) (drop at buf))) h)
 
     pub filling_full : n ≡ 0 → FilledAs next q s (put_mid at (length buf - at) buf y) at false r
-    unfolding fill fill_with if◌then◌else◌
+    unfolding fill fill_with when◌then◌else◌
     filling_full z =
         let long = too_long z in
         let same = part_same at (length buf - at) buf y (ap (λ (w : WrittenBuffer). w.octets) (does ∙ put_front-short p.octets (take (length buf - at) (drop at buf)) (omega (arith, filling_part)))) in
@@ -116,7 +116,7 @@ module _ {R : Type 0} {next : R → Option (Piece R)} {q : R} {s buf : List ℕ}
     filling_within z = omega (arith, ap (λ (w : WrittenBuffer). w.answer) (written z), fitted z, F.room)
 
     pub filling_next : (n ≡ 0 → ⊥) → Filling next q s (put_mid at (length buf - at) buf y) (at + n) p.rest
-    unfolding fill fill_with if◌then◌else◌
+    unfolding fill fill_with when◌then◌else◌
     filling_next z =
         let lb : length buf ≡ length s = filling_length in
         let h = fitted z in

@@ -9,7 +9,7 @@ use lib.Dec.{eqb}
 use lib.ListN.{length, take}
 use borrow.Author.Tests.{eqb-true}
 use Rattle.units.specs.Time.{elapsed_since}
-use Rattle.laws.specs.Choice.{if◌then◌else◌}
+use Rattle.laws.specs.Choice.{when◌then◌else◌}
 use Rattle.laws.specs.Buffers.{onto}
 use Rattle.octets.specs.declared.numbers.Kind.TheVariants.{Event, Diagnostic}
 use Rattle.octets.specs.Numbers.{report_action}
@@ -29,34 +29,34 @@ use Rattle.report_calls.specs.Internal.{is_none, FramedAs, filled_events, answer
 
 -- the octets of an identity's first len places
 pub identity-octets : (len : ℕ) (identity : List ℕ) → octets_of (view_identity len identity) ≡ take len identity
-unfolding view_identity octets_of if◌then◌else◌
+unfolding view_identity octets_of when◌then◌else◌
 identity-octets len identity = go (eqb len 0) refl
   where
-    go : (t : Bool) → eqb len 0 ≡ t → octets_of (if t then none else some (take len identity)) ≡ take len identity
+    go : (t : Bool) → eqb len 0 ≡ t → octets_of (when t then none else some (take len identity)) ≡ take len identity
     go true e = rw (eqb-true len 0 e)
     go false e = refl
 
 -- a request that is over, or not
-ended-events : (q : EventRequest) (o : Option (Piece EventRequest)) (done : Bool) → done ≡ is_none o → (if not done then some q else none) ≡ unless_done q o
-unfolding unless_done if◌then◌else◌
+ended-events : (q : EventRequest) (o : Option (Piece EventRequest)) (done : Bool) → done ≡ is_none o → (when not done then some q else none) ≡ unless_done q o
+unfolding unless_done when◌then◌else◌
 ended-events q none done e = rw e
 ended-events q (some p) done e = rw e
 
 ended-diagnostics : (identity : List ℕ) (dialog accepted : ℕ) (xs : List Element) (done : Bool) → done ≡ is_none (next_diagnostic identity xs)
-    → (if not done then some (record { dialog = dialog; accepted = accepted; elements = xs }) else none) ≡ unless_over dialog accepted xs
-unfolding next_diagnostic unless_over if◌then◌else◌
+    → (when not done then some (record { dialog = dialog; accepted = accepted; elements = xs }) else none) ≡ unless_over dialog accepted xs
+unfolding next_diagnostic unless_over when◌then◌else◌
 ended-diagnostics identity dialog accepted [] done e = rw e
 ended-diagnostics identity dialog accepted (x ∷ xs) done e = rw e
 
 module _ (r : Requester) (log : List Entry) (s : List ℕ) where
   pub no_events : r.events.outstanding ≡ false → view_served (record { requester = r; answer = Nothing }) s ≡ give_kind elapsed_since none log s (view_requester r) Event
-  unfolding give_kind if_outstanding view_requester view_events view_answer if◌then◌else◌
+  unfolding give_kind if_outstanding view_requester view_events view_answer when◌then◌else◌
   no_events e = rw e
 
   pub gives-events : (s' : List ℕ) (f : Filled) → r.events.outstanding ≡ true
       → FramedAs (next_event elapsed_since r.form log) (report_action Event) r.events.dialog (events_at r.events (progress_of r.events)) s s' f.wrote f.done (events_at r.events f.after)
       → view_served (gave_events r f) s' ≡ give_kind elapsed_since none log s (view_requester r) Event
-  unfolding give_kind if_outstanding give_events view_requester view_events view_answer events_at if◌then◌else◌
+  unfolding give_kind if_outstanding give_events view_requester view_events view_answer events_at when◌then◌else◌
   gives-events s' f e g =
       let P = next_frame (next_event elapsed_since r.form log) (report_action Event) r.events.dialog (room s) (events_at r.events (progress_of r.events)) in
       let left : view_events (filled_events r.events f) ≡ unless_done P.rest (next_event elapsed_since r.form log P.rest) =
@@ -68,13 +68,13 @@ module _ (r : Requester) (log : List Entry) (s : List ℕ) where
 module _ (r : Requester) (len : ℕ) (identity s : List ℕ) where
   pub no_diagnostics : r.diagnostics.outstanding ≡ false
       → view_served (record { requester = r; answer = Nothing }) s ≡ give_kind elapsed_since (view_identity len identity) [] s (view_requester r) Diagnostic
-  unfolding give_kind if_outstanding view_requester view_diagnostics view_answer if◌then◌else◌
+  unfolding give_kind if_outstanding view_requester view_diagnostics view_answer when◌then◌else◌
   no_diagnostics e = rw e
 
   pub gives-diagnostics : (s' : List ℕ) (f : Answered) → r.diagnostics.outstanding ≡ true
       → FramedAs (next_diagnostic (take len identity)) (report_action Diagnostic) r.diagnostics.dialog (left r.diagnostics.first r.diagnostics.count r.diagnostics.elements) s s' f.wrote f.done (left f.first r.diagnostics.count r.diagnostics.elements)
       → view_served (gave_diagnostics r f) s' ≡ give_kind elapsed_since (view_identity len identity) [] s (view_requester r) Diagnostic
-  unfolding give_kind if_outstanding give_diagnostics view_requester view_diagnostics view_answer if◌then◌else◌
+  unfolding give_kind if_outstanding give_diagnostics view_requester view_diagnostics view_answer when◌then◌else◌
   gives-diagnostics s' f e g =
       let d = r.diagnostics in
       let P = next_frame (next_diagnostic (take len identity)) (report_action Diagnostic) d.dialog (room s) (left d.first d.count d.elements) in

@@ -8,7 +8,7 @@ use native.Mathlib.Omega.{arith}
 use lib.ListN.{length, length-append}
 use lib.Dec.{eqb}
 use borrow.Author.Tests.{eq-eqb, ne_eqb, eqb-true, eqb-false, not-true, not-false}
-use Rattle.laws.specs.Choice.{if◌then◌else◌}
+use Rattle.laws.specs.Choice.{when◌then◌else◌}
 use Rattle.laws.specs.Buffers.{pieces, wrote, put_at}
 use Rattle.laws.proofs.Choice.{either}
 use Rattle.laws.proofs.Pieces.{pieces_snoc}
@@ -33,11 +33,11 @@ use Rattle.report_listing.specs.Internal.{unread_most, tail_most, report_line_mo
 
 module _ (front : List ℕ) (digits ones k at n : ℕ) (s y : List ℕ) where
   pub time_unknown : k ≡ ones → wrote n y ≡ put_at (front ++ text "?") at s → Puts (length front + 5) (time_field front digits ones k) at s n y
-  unfolding time_field if◌then◌else◌
+  unfolding time_field when◌then◌else◌
   time_unknown e does = rw (eq-eqb k ones e) (at_most (length front + 5) (omega (arith, length-append front (text "?"))) (one does))
 
   pub time_known : (k ≡ ones → ⊥) → k < 65536 → digits ≤ 5 → wrote n y ≡ put_at (front ++ decimal digits k) at s → Puts (length front + 5) (time_field front digits ones k) at s n y
-  unfolding time_field if◌then◌else◌
+  unfolding time_field when◌then◌else◌
   time_known e small few does =
       rw (ne_eqb k ones e) (at_most (length front + 5) (omega (arith, length-append front (decimal digits k), decimal-length 5 digits k (omega arith) (omega arith) few)) (one does))
 
@@ -91,7 +91,7 @@ module _ {form : ℕ} {s : List ℕ} {kind : Kind} {from : ℕ} {old buf : List 
 
     -- no element of a frame that is not refused is
     pub accepted : t.refusal.number ≡ 0
-    unfolding read_step gathered if◌then◌else◌
+    unfolding read_step gathered when◌then◌else◌
     accepted = go (eqb t.refusal.number 0) refl
       where
         go : (b : Bool) → eqb t.refusal.number 0 ≡ b → t.refusal.number ≡ 0
@@ -106,7 +106,7 @@ module _ {form : ℕ} {s : List ℕ} {kind : Kind} {from : ℕ} {old buf : List 
     on = goes_on form s kind cur t is accepted
 
     pub listed_next : {n : ℕ} {y : List ℕ} → length y ≡ length buf → Puts (step_most t) (step_line form s kind t) at buf n y → Listed form s kind from old y n t.next.at
-    unfolding read_step gathered step_line step_most if◌then◌else◌
+    unfolding read_step gathered step_line step_most when◌then◌else◌
     listed_next {n} {y} keeps q = go t.found refl
       where
         go : (b : Bool) → t.found ≡ b → Listed form s kind from old y n t.next.at

@@ -1,7 +1,7 @@
 -- Nobody has to believe this file: it has what the contracts of functions inside this crate speak of.
 -- Assumes nothing.
 use Rattle.std.specs.Prelude.{ℕ, ◌+◌, ◌*◌, ◌-◌, Bool, true, false, List, []}
-use Rattle.laws.specs.Choice.{if◌then◌else◌}
+use Rattle.laws.specs.Choice.{when◌then◌else◌}
 use Rattle.octets.specs.declared.numbers.Kind.{Kind}
 use Rattle.report_reader.specs.declared.Step.{Step}
 use Rattle.report_reader.specs.Reader.{element_read_at}
@@ -37,7 +37,7 @@ lines_most at = 14 * (at - 3)
 -- ---- the line of what stands at a cursor
 
 unfoldable pub step_line : ℕ → List ℕ → Kind → Step → List ℕ
-step_line form s kind t = if t.found then report_element_line form kind (element_read_at form s t) else []
+step_line form s kind t = when t.found then report_element_line form kind (element_read_at form s t) else []
 
 unfoldable pub step_most : Step → ℕ
-step_most t = if t.found then report_line_most t.element.logged else 0
+step_most t = when t.found then report_line_most t.element.logged else 0

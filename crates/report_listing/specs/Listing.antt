@@ -2,7 +2,7 @@
 -- Assumes nothing.
 use Rattle.std.specs.Prelude.{ℕ, ◌+◌, ◌*◌, ◌-◌, not, List, [], ◌++◌, length, get_or, take, drop, eqb, ltb}
 use Rattle.std.proofs.Math.Option.{Option, none, some}
-use Rattle.laws.specs.Choice.{if◌then◌else◌}
+use Rattle.laws.specs.Choice.{when◌then◌else◌}
 use Rattle.laws.specs.Buffers.{pieces}
 use Rattle.octets.specs.declared.numbers.Kind.{Kind}
 use Rattle.octets.specs.declared.numbers.Kind.TheVariants.{Event as EventKind, Diagnostic}
@@ -26,7 +26,7 @@ use Rattle.report_reader.specs.Reader.{read_report, ElementRead, read_elements}
 
 -- a time field behind a text; all ones means unknown: `?`
 unfoldable pub time_field : List ℕ → ℕ → ℕ → ℕ → List ℕ
-time_field front digits ones n = front ++ (if eqb n ones then text "?" else decimal digits n)
+time_field front digits ones n = front ++ (when eqb n ones then text "?" else decimal digits n)
 
 -- ` time 2026-12-31`
 unfoldable pub date_text : ℕ → ℕ → ℕ → List ℕ
@@ -73,12 +73,12 @@ transition_text form e =
 -- "for EAP 254 ` vendor XX:XX:XX vendor-type XX:XX:XX:XX`": three octets behind the first, and four
 unfoldable pub vendor_text : List ℕ → List ℕ
 vendor_text method =
-    if eqb (get_or method 0 0) 254 then colon_text (text " vendor ") (take 3 (drop 1 method)) ++ colon_text (text " vendor-type ") (drop 4 method)
+    when eqb (get_or method 0 0) 254 then colon_text (text " vendor ") (take 3 (drop 1 method)) ++ colon_text (text " vendor-type ") (drop 4 method)
     else []
 
 -- "where an RSN element is there, ` rsn HEX`"
 unfoldable pub rsn_text : List ℕ → ℕ → List ℕ
-rsn_text rsn size = if eqb size 0 then [] else bare_text (text " rsn ") (take size rsn)
+rsn_text rsn size = when eqb size 0 then [] else bare_text (text " rsn ") (take size rsn)
 
 unfoldable pub rsna_text : ℕ → RsnaReport → List ℕ
 rsna_text form e =
@@ -107,12 +107,12 @@ event_text form (peer_link_report e) = peer_link_text form e
 
 -- "For status 0 of other event types the rest is kept unread."
 unfoldable pub unread_text : ℕ → ℕ → List ℕ
-unread_text ty n = if ltb ty tables then [] else field " rest " n
+unread_text ty n = when ltb ty tables then [] else field " rest " n
 
 -- what an event report has behind its status: the event, or how many octets are kept unread
 unfoldable pub event_tail : ℕ → Option ReportedEvent → Element → List ℕ
 event_tail form (some x) e = event_text form x
-event_tail form none e = if eqb e.status successful then unread_text e.ty e.length else []
+event_tail form none e = when eqb e.status successful then unread_text e.ty e.length else []
 
 unfoldable pub tail_text : ℕ → Kind → ElementRead → List ℕ
 tail_text form EventKind x = event_tail form x.event x.element
@@ -133,7 +133,7 @@ report_element_lines form kind es = pieces (λ (i : ℕ) (x : ElementRead). repo
 -- a report that was read of a frame: the refusal, or the first line and one line for each element that the cursor hands out
 unfoldable pub report_listing : ℕ → List ℕ → Report → List ℕ
 report_listing form s r =
-    if not (eqb r.refusal.number 0) then refusal_line r.refusal
+    when not (eqb r.refusal.number 0) then refusal_line r.refusal
     else frame_line (text "report ") (report_action r.kind) r.dialog r.count ++ report_element_lines form r.kind (read_elements form s r.kind).elements
 
 abbrev pub frame_listing : ℕ → List ℕ → List ℕ → List ℕ
@@ -142,8 +142,8 @@ frame_listing form destination s = report_listing form s (read_report form desti
 -- the program's input: the form, six octets of destination, then the frame. An octet that is not there is 0, a form
 unfoldable pub input_listing : List ℕ → List ℕ
 input_listing input =
-    if not (is_form (get_or input 0 0)) then refusal_line (refused bad_requester_list 0)
-    else if ltb (length input) 7 then refusal_line (refused bad_frame_length 0)
+    when not (is_form (get_or input 0 0)) then refusal_line (refused bad_requester_list 0)
+    else when ltb (length input) 7 then refusal_line (refused bad_frame_length 0)
     else frame_listing (get_or input 0 0) (address_at input 1) (drop 7 input)
 
 -- how many octets a listing has at most: the first line, and 14 for each octet that the elements take of a frame

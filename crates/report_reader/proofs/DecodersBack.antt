@@ -8,7 +8,7 @@ use native.Mathlib.Omega.{arith}
 use lib.Dec.{eqb, ltb}
 use lib.ListN.{length, get_or, drop, get_or-append}
 use borrow.Author.Tests.{eq-eqb, eqb-true}
-use Rattle.laws.specs.Choice.{if◌then◌else◌}
+use Rattle.laws.specs.Choice.{when◌then◌else◌}
 use Rattle.laws.proofs.Choice.{never}
 use Rattle.laws.proofs.Parts.{stands_at, stands-behind}
 use Rattle.units.specs.Time.{age, tus_of}
@@ -48,12 +48,12 @@ module _ (t : Times) (body : List ℕ) (w : TimesLengths t) where
       rw (octets_stand o 0 8 t.tsf _ w.tsf a, octets_stand o 8 10 t.offset _ w.offset b, octets_stand o 18 5 t.error body w.error d)
 
   times-first : (form : ℕ) → times_in form (by_form form t.time (published_fields t) ++ body) ≡ carried_times form t
-  unfolding times_in if◌then◌else◌
+  unfolding times_in when◌then◌else◌
   times-first form = go (eqb form draft)
     where
-      go : (b : Bool) → let o = (if b then t.time else published_fields t) ++ body in
-          (if b then draft_times (time_at o 0) else published_times (octets_at o 0 8) (octets_at o 8 10) (octets_at o 18 5))
-          ≡ (if b then draft_times t.time else published_times t.tsf t.offset t.error)
+      go : (b : Bool) → let o = (when b then t.time else published_fields t) ++ body in
+          (when b then draft_times (time_at o 0) else published_times (octets_at o 0 8) (octets_at o 8 10) (octets_at o 18 5))
+          ≡ (when b then draft_times t.time else published_times t.tsf t.offset t.error)
       go true = ap draft_times draft-first
       go false = published-first (published_fields t ++ body) refl
 
@@ -64,7 +64,7 @@ body_behind time body n e = stands-behind (time ++ body) 0 time body refl n (ome
 
 pub decoded_back : (form stamp reading : ℕ) (x : LoggedEvent) → EventLengths x
     → decoded form (event_type x) (time_of form (entry_of stamp reading x) ++ event_body reading x) ≡ reported_event form reading x
-unfolding decoded transition_in rsna_in peer_link_in entry_with if◌then◌else◌
+unfolding decoded transition_in rsna_in peer_link_in entry_with when◌then◌else◌
 decoded_back form stamp reading (transition t) w =
     let tus : ℕ = tus_of (age reading t.departure.0) in
     let body : List ℕ = transition_body t tus in
@@ -101,7 +101,7 @@ rsna-fits form first n m h e = go (eqb m 0) (eqb m rsn_length) refl refl h
 module _ (form : ℕ) (s : List ℕ) (at : ℕ) (r : List ℕ) (reading : ℕ) where
   pub length-fits : (x : LoggedEvent) → EventLengths x → good_rsn_element x ≡ true → drop (at + 5 + time_length form) s ≡ event_body reading x ++ r
       → (n : ℕ) → n ≡ report_length form (length (event_body reading x)) → is_event_length form s at n (event_type x) ≡ true
-  unfolding is_event_length if◌then◌else◌
+  unfolding is_event_length when◌then◌else◌
   length-fits (transition t) w good h n e = eq-eqb n (report_length form transition_length) (e ∙ ap (report_length form) (body_length t (tus_of (age reading t.departure.0)) w.fields))
   length-fits (rsna a rsn) w good h n e =
       let body : List ℕ = rsna_body a rsn in

@@ -8,7 +8,7 @@ use native.Mathlib.Omega.{arith}
 use lib.Dec.{eqb, ltb}
 use lib.ListN.{length, get_or, drop, length-append}
 use borrow.Author.Tests.{eqb-true, eqb-false, leb-true, ne_eqb}
-use Rattle.laws.specs.Choice.{if◌then◌else◌}
+use Rattle.laws.specs.Choice.{when◌then◌else◌}
 use Rattle.laws.specs.Members.{All, nil, also, any}
 use Rattle.laws.specs.Buffers.{pieces}
 use Rattle.laws.specs.Walk.{repeat_while}
@@ -63,10 +63,10 @@ rsn_two n h = go (eqb n 0) (eqb n rsn_length) refl refl h
     go false false p q e = never e
 
 time_differs : (form told : ℕ) → Differ form told → time_length form ≡ time_length told → ⊥
-unfolding if◌then◌else◌
+unfolding when◌then◌else◌
 time_differs form told d = go (eqb form draft) (eqb told draft) refl refl
   where
-    go : (x y : Bool) → eqb form draft ≡ x → eqb told draft ≡ y → (if x then draft_length else published_length) ≡ (if y then draft_length else published_length) → ⊥
+    go : (x y : Bool) → eqb form draft ≡ x → eqb told draft ≡ y → (when x then draft_length else published_length) ≡ (when y then draft_length else published_length) → ⊥
     go true true p q e = d.differ (eqb-true form 0 p ∙ sym (eqb-true told 0 q))
     go true false p q e = absurd (omega (arith, e))
     go false true p q e = absurd (omega (arith, e))
@@ -80,7 +80,7 @@ apart t u differ a b m k e =
     absurd (omega (arith, t.few, t.is, u.few, u.is, differ, a.few, a.is, b.few, b.is, m.few, m.is, k.few, k.is, e))
 
 pub lengths_differ : LengthsDiffer
-unfolding is_event_length if◌then◌else◌
+unfolding is_event_length when◌then◌else◌
 lengths_differ form told d now (transition t) w good s at =
     let l = body_length t (tus_of (age now t.departure.0)) w.fields in
     ne_eqb _ (report_length told transition_length) (λ e. time_differs form told d (omega (arith, e, l)))
@@ -102,7 +102,7 @@ lengths_differ form told d now (peer_link a) w good s at =
 
 typed_refused : (told : ℕ) (s : List ℕ) (at n ty : ℕ) → (n ≡ 3 → ⊥) → get_or s (at + 4) 0 ≡ 0 → get_or s (at + 3) 0 ≡ ty → ltb ty tables ≡ true → is_event_length told s at n ty ≡ false
     → event_step told s at n ≡ refused_step bad_report_body at
-unfolding event_step typed_step if◌then◌else◌
+unfolding event_step typed_step when◌then◌else◌
 typed_refused told s at n ty m e f t k = rw (e, f, t, ne_eqb n 3 m, k)
 
 pub other-form-refused : OtherFormRefused
@@ -182,7 +182,7 @@ unlogged s at =
 
 module _ (form told : ℕ) (s : List ℕ) where
   same-gathered : (w : Reading) (t : Step) → t.element.logged ≡ false → gathered form s w t ≡ gathered told s w t
-  unfolding gathered if◌then◌else◌
+  unfolding gathered when◌then◌else◌
   same-gathered w t e = rw e
 
   same_step : (w : Reading) → read_step form s Diagnostic w ≡ read_step told s Diagnostic w
@@ -223,7 +223,7 @@ module _ (form told : ℕ) (d : Differ form told) (dialog : ℕ) (xs : List (Con
     more = go_on 0 at (length frame) refl (omega (arith, content_some form Event x))
 
     passed : tells_event x ≡ false → Left (at + length (content_octets form Event x)) (front ++ (x ∷ []))
-    unfolding read_step gathered if◌then◌else◌
+    unfolding read_step gathered when◌then◌else◌
     passed e =
         let o = same-octets form told Event x e in
         let f = content_back told frame at r Event x may (h ∙ ap (λ (l : List ℕ). l ++ r) o) in
@@ -231,7 +231,7 @@ module _ (form told : ℕ) (d : Differ form told) (dialog : ℕ) (xs : List (Con
         (rw (f.step, f.behind, f.decodes, map-append (content_read told Event) front (x ∷ []), o))
 
     stopped : step_at told frame Event at ≡ refused_step bad_report_body at → whole ≡ reading (refused bad_report_body at) 0 []
-    unfolding read_step gathered if◌then◌else◌
+    unfolding read_step gathered when◌then◌else◌
     stopped e =
         sym (last left more (omega (arith, content_some form Event x)) (rw e) (stop_refused bad_report_body 0 (length frame) (λ z. absurd (omega (arith, z)))))
 
@@ -287,7 +287,7 @@ other-form_never_shown form told d dialog xs may = go (read-other form told d di
     go (is-refused at e p) = rw p nil
 
 pub other-frame-refused : OtherFrameRefused
-unfolding report_of if◌then◌else◌
+unfolding report_of when◌then◌else◌
 other-frame-refused form told d dialog xs may tells fits a single =
     let o : List ℕ = pieces (λ _ x. content_octets form Event x) 0 xs in
     ap (λ (r : Report). r.refusal.number) (report-of told d.other Event dialog o a single (omega arith)) ∙ go (read-other form told d dialog xs may)

@@ -9,7 +9,7 @@ use native.Mathlib.Omega.{arith}
 use lib.ListN.{length, get_or, take, drop, length-append}
 use lib.Dec.{eqb, ltb}
 use borrow.Author.Tests.{eqb-true, eqb-false, ltb-false, not-true, not-false}
-use Rattle.laws.specs.Choice.{if◌then◌else◌}
+use Rattle.laws.specs.Choice.{when◌then◌else◌}
 use Rattle.laws.proofs.Walk.{Rest, start, last, again, done, go_on, stop_refused, stop_end}
 use Rattle.laws.proofs.Choice.{either, apply_if, never}
 use Rattle.octets.specs.declared.numbers.Kind.{Kind}
@@ -62,10 +62,10 @@ event_least form s at n ty =
 
 module _ (form : ℕ) (s : List ℕ) (at : ℕ) where
   plain_event : event_step form s at 3 ≡ plain_step s at 3 0
-  unfolding event_step bare_step typed_step if◌then◌else◌
+  unfolding event_step bare_step typed_step when◌then◌else◌
   plain_event = go (eqb (get_or s (at + 4) 0) 0) (ltb (get_or s (at + 3) 0) tables)
     where
-      go : (a b : Bool) → (if not a then plain_step s at 3 0 else if b then plain_step s at 3 0 else plain_step s at 3 0) ≡ plain_step s at 3 0
+      go : (a b : Bool) → (when not a then plain_step s at 3 0 else when b then plain_step s at 3 0 else plain_step s at 3 0) ≡ plain_step s at 3 0
       go true true = refl
       go true false = refl
       go false b = refl
@@ -152,7 +152,7 @@ goes_on form s kind at t e z = rw e (goes s at (cursor_stands form s kind at) (r
 -- ---- and its verdict says the rest of it
 
 stands-told : (s : List ℕ) (at : ℕ) {t : Step} → Stands s at t → step_of s at (verdict_of t) ≡ t
-unfolding step_of found_element verdict_of plain_step logged_step if◌then◌else◌
+unfolding step_of found_element verdict_of plain_step logged_step when◌then◌else◌
 stands-told s at (is-refused n p h) = refl
 stands-told s at (is_skipped e on within) = refl
 stands-told s at (is_plain n subs few h) = let e : at + 2 + n - (at + 5) ≡ n - 3 = omega arith in rw e
@@ -175,7 +175,7 @@ module _ (form : ℕ) (s : List ℕ) (kind : Kind) (at : ℕ) where
 -- a step that is refused at once
 module _ (s : List ℕ) (at number place : ℕ) where
   pub refused-told : step_of s at (verdict_of (refused_step number place)) ≡ refused_step number place
-  unfolding step_of verdict_of if◌then◌else◌
+  unfolding step_of verdict_of when◌then◌else◌
   refused-told = refl
 
   pub refused-fits : {v : Verdict} → v ≡ verdict_of (refused_step number place) → v.found ≡ true → Fits s at v
@@ -186,28 +186,28 @@ module _ (s : List ℕ) (at number place : ℕ) where
 
 module _ (form : ℕ) (s : List ℕ) (kind : Kind) (at : ℕ) {v : Verdict} where
   pub refused_outline : (number place : ℕ) → v ≡ verdict_of (refused_step number place) → Outline form s kind at v (refused_step number place)
-  unfolding verdict_of held if◌then◌else◌
+  unfolding verdict_of held when◌then◌else◌
   refused_outline number place e = rw e (record { stands = record { fits = never; timely = never }; told = refl })
 
   pub skipped_outline : (next : ℕ) → v ≡ verdict_of (skipped_step next) → Outline form s kind at v (skipped_step next)
-  unfolding verdict_of held if◌then◌else◌
+  unfolding verdict_of held when◌then◌else◌
   skipped_outline next e = rw e (record { stands = record { fits = never; timely = never }; told = refl })
 
 module _ (form : ℕ) (s : List ℕ) (at n : ℕ) {v : Verdict} (h : at + 2 + n ≤ length s) where
   pub plain_outline : 3 ≤ n → v ≡ verdict_of (plain_step s at n 0) → EventOutline form s at v (plain_step s at n 0)
-  unfolding verdict_of plain_step held timed_verdict if◌then◌else◌
+  unfolding verdict_of plain_step held timed_verdict when◌then◌else◌
   plain_outline few e = rw e (record { stands = record { fits = λ _. record { head = omega arith; within = h }; timely = never }; told = refl })
 
   pub logged_outline : 24 ≤ n → v ≡ verdict_of (logged_step s at n)
-      → EventOutline form s at v (if not (good_time_at form s (at + 5)) then refused_step bad_time at else logged_step s at n)
-  unfolding verdict_of logged_step held timed_verdict if◌then◌else◌
+      → EventOutline form s at v (when not (good_time_at form s (at + 5)) then refused_step bad_time at else logged_step s at n)
+  unfolding verdict_of logged_step held timed_verdict when◌then◌else◌
   logged_outline few e = rw e (record {
     stands = record { fits = λ _. record { head = omega arith; within = h }; timely = λ _. omega arith };
     told = sym (apply_if verdict_of (not (good_time_at form s (at + 5))) (refused_step bad_time at) (logged_step s at n));
   })
 
   pub diagnostic_outline : 3 ≤ n → v ≡ verdict_of (plain_step s at n 0) → Outline form s Diagnostic at v (diagnostic_step s at n)
-  unfolding verdict_of plain_step held if◌then◌else◌
+  unfolding verdict_of plain_step held when◌then◌else◌
   diagnostic_outline few e =
       let k : at + 2 + n - (at + 2) ≡ n = omega arith in
       rw e (record { stands = record { fits = λ _. record { head = omega arith; within = h }; timely = never }; told = ap (λ (m : ℕ). verdict_of (diagnostic_step s at m)) k })
@@ -232,7 +232,7 @@ found_extent form s kind at t e f = rw e (stands_extends s at (cursor_stands for
 -- ---- told a form, the cursor hands out what stands there
 
 pub cursor_told : (form : ℕ) → is_form form ≡ true → (s : List ℕ) (kind : Kind) (at : ℕ) → cursor_step form s kind at ≡ step_at form s kind at
-unfolding cursor_step if◌then◌else◌
+unfolding cursor_step when◌then◌else◌
 cursor_told form is s kind at = rw is
 
 -- ---- the reading's step moves on too, and its position bounds the number of elements

@@ -10,7 +10,7 @@ use lib.ListN.{length, get_or, drop, length-append, length-map}
 use borrow.Author.Tests.{le-ltb, ne_eqb, eq-eqb}
 use native.Mathlib.Omega.{arith}
 use Rattle.laws.specs.Members.{All}
-use Rattle.laws.specs.Choice.{if◌then◌else◌}
+use Rattle.laws.specs.Choice.{when◌then◌else◌}
 use Rattle.laws.specs.Buffers.{pieces}
 use Rattle.laws.proofs.Walk.{Rest, start, again, done, go_on, stop_end}
 use Rattle.laws.proofs.Parts.{stands_at, stands-first, stands-length, stands-behind}
@@ -47,7 +47,7 @@ at_subs : ℕ → ℕ → Subelements
 at_subs at n = record { refusal = no_refusal; at = at; count = n; filter = no_filter }
 
 sub_passes : (s : List ℕ) (end at n id : ℕ) (b r : List ℕ) → drop at s ≡ framed id b ++ r → at + 2 + length b ≤ end → subelement_step s tables end (at_subs at n) ≡ at_subs (at + 2 + length b) (n + 1)
-unfolding subelement_step whole_step if◌then◌else◌ at_subs
+unfolding subelement_step whole_step when◌then◌else◌ at_subs
 sub_passes s end at n id b r h fits =
     rw (piece_stands s at end id b r h fits, ne_eqb (at + 2 + length b) 0 (λ z. absurd (omega arith)), no_length tables (get_or s at 0) (get_or s (at + 2) 0) refl)
 
@@ -110,7 +110,7 @@ module _ (form : ℕ) (s : List ℕ) (kind : Kind) (at token ty status : ℕ) (r
   end_there = omega arith
 
   pub own_there : step_at form s kind at ≡ own_report_step form s kind at (length body)
-  unfolding step_at report_element if◌then◌else◌
+  unfolding step_at report_element when◌then◌else◌
   own_there =
       let l = stands-length s at o r h (omega arith) in
       rw (
@@ -131,16 +131,16 @@ module _ (form : ℕ) (s : List ℕ) (kind : Kind) (at token ty status : ℕ) (r
 
 module _ (form : ℕ) (s : List ℕ) (at : ℕ) where
   kept-event : (n : ℕ) → get_or s (at + 4) 0 ≡ 0 → tables ≤ get_or s (at + 3) 0 → event_step form s at n ≡ plain_step s at n 0
-  unfolding event_step if◌then◌else◌
+  unfolding event_step when◌then◌else◌
   kept-event n e other = rw (e, le-ltb (get_or s (at + 3) 0) tables other)
 
   logged-event : (n ty : ℕ) → (n ≡ 3 → ⊥) → get_or s (at + 4) 0 ≡ 0 → get_or s (at + 3) 0 ≡ ty → ltb ty tables ≡ true → is_event_length form s at n ty ≡ true → good_time_at form s (at + 5) ≡ true
       → event_step form s at n ≡ logged_step s at n
-  unfolding event_step typed_step if◌then◌else◌
+  unfolding event_step typed_step when◌then◌else◌
   logged-event n ty m e f t k good = rw (e, f, t, ne_eqb n 3 m, k, good)
 
   pub own_event : (n : ℕ) → 3 ≤ n → get_or s (at + 4) 0 ≤ 4 → own_report_step form s Event at n ≡ event_step form s at n
-  unfolding own_report_step if◌then◌else◌
+  unfolding own_report_step when◌then◌else◌
   own_event n few low = rw (le-ltb n 3 few, le-ltb 4 (get_or s (at + 4) 0) low)
 
 -- what is found at a position: the step, and what it hands out
@@ -152,16 +152,16 @@ pub record Found (form : ℕ) (s : List ℕ) (kind : Kind) (at : ℕ) (x : Conte
 -- the time fields that stand at a position are good, where the nine octets are
 time-good : (form : ℕ) (s : List ℕ) (at : ℕ) (x : Logging) (r : List ℕ) → EventLengths x.event → good_time (event_times x.event).time ≡ true
     → drop at s ≡ time_of form (entry_for x) ++ r → good_time_at form s at ≡ true
-unfolding good_time_at entry_with if◌then◌else◌
+unfolding good_time_at entry_with when◌then◌else◌
 time-good form s at x r w good = go (eqb form draft)
   where
-    go : (b : Bool) → drop at s ≡ (if b then (event_times x.event).time else published_fields (event_times x.event)) ++ r → (if b then good_time (time_at s at) else true) ≡ true
+    go : (b : Bool) → drop at s ≡ (when b then (event_times x.event).time else published_fields (event_times x.event)) ++ r → (when b then good_time (time_at s at) else true) ≡ true
     go true h = rw (octets_stand s at 9 (event_times x.event).time r w.times.time h) good
     go false h = refl
 
 module _ (form : ℕ) (s : List ℕ) (at : ℕ) (r : List ℕ) where
   bare-event : (token ty status : ℕ) → status ≤ 4 → drop at s ≡ content_octets form Event (status_only token ty status) ++ r → Found form s Event at (status_only token ty status)
-  unfolding content_octets octets_at if◌then◌else◌
+  unfolding content_octets octets_at when◌then◌else◌
   bare-event token ty status few h = record {
     step =
         own_there form s Event at token ty status [] r h
@@ -173,7 +173,7 @@ module _ (form : ℕ) (s : List ℕ) (at : ℕ) (r : List ℕ) where
   }
 
   kept_back : (token ty : ℕ) (o : List ℕ) → tables ≤ ty → drop at s ≡ content_octets form Event (kept_unread token ty o) ++ r → Found form s Event at (kept_unread token ty o)
-  unfolding content_octets if◌then◌else◌
+  unfolding content_octets when◌then◌else◌
   kept_back token ty o other h = record {
     step =
         own_there form s Event at token ty 0 o r h
@@ -201,7 +201,7 @@ module _ (form : ℕ) (s : List ℕ) (at : ℕ) (r : List ℕ) where
 
   event_back : (token : ℕ) (x : Logging) → EventLengths x.event → good_time (event_times x.event).time ≡ true → good_rsn_element x.event ≡ true
       → drop at s ≡ content_octets form Event (logged_event token x) ++ r → Found form s Event at (logged_event token x)
-  unfolding content_octets event_element entry_with if◌then◌else◌
+  unfolding content_octets event_element entry_with when◌then◌else◌
   event_back token x w timed good h =
       let ty : ℕ = event_type x.event in
       let time : List ℕ = time_of form (entry_for x) in
@@ -222,7 +222,7 @@ module _ (form : ℕ) (s : List ℕ) (at : ℕ) (r : List ℕ) where
 
   listed_back : (token ty status : ℕ) (ps : List Subelement) → status ≤ 4 → drop at s ≡ report_element Diagnostic token ty status (subelements ps) ++ r
       → Found form s Diagnostic at (with_subelements token ty status ps)
-  unfolding content_octets own_report_step diagnostic_step walked_step if◌then◌else◌ at_subs
+  unfolding content_octets own_report_step diagnostic_step walked_step when◌then◌else◌ at_subs
   listed_back token ty status ps few h =
       let o : List ℕ = subelements ps in
       record {
@@ -240,7 +240,7 @@ module _ (form : ℕ) (s : List ℕ) (at : ℕ) (r : List ℕ) where
       }
 
   bare_back : (kind : Kind) (token ty status : ℕ) → status ≤ 4 → drop at s ≡ content_octets form kind (status_only token ty status) ++ r → Found form s kind at (status_only token ty status)
-  unfolding content_octets subelements pieces if◌then◌else◌
+  unfolding content_octets subelements pieces when◌then◌else◌
   bare_back Event token ty status few h = bare-event token ty status few h
   bare_back Diagnostic token ty status few h = let f = listed_back token ty status [] few h in record { step = f.step; behind = f.behind; decodes = refl }
 
@@ -255,7 +255,7 @@ module _ (form : ℕ) (s : List ℕ) (at : ℕ) (r : List ℕ) where
 
 pub report-of : (form : ℕ) → is_form form ≡ true → (kind : Kind) (dialog : ℕ) (o d : List ℕ) → is_group d ≡ false → length o + 3 ≤ longest_frame
     → let f = category ∷ report_action kind ∷ dialog ∷ o in read_report form d f ≡ report_of kind dialog (read_elements form f kind)
-unfolding read_report if◌then◌else◌
+unfolding read_report when◌then◌else◌
 report-of form is kind dialog o d single fits =
     rw (is, single, head_kind dialog o report_action refl kind, head-accepted dialog o (report_action kind) (omega arith))
 
@@ -275,7 +275,7 @@ module _ (form : ℕ) (kind : Kind) (dialog : ℕ) (xs : List (Content kind)) wh
 
   left : (front : List (Content kind)) (x : Content kind) (at : ℕ) (r : List ℕ) → Valid kind x → drop at frame ≡ content_octets form kind x ++ r → at + length (content_octets form kind x) ≤ length frame
       → Left at front → Left (at + length (content_octets form kind x)) (front ++ (x ∷ []))
-  unfolding read_step gathered if◌then◌else◌
+  unfolding read_step gathered when◌then◌else◌
   left front x at r may h fits l =
       let f = content_back form frame at r kind x may h in
       again _ l (go_on 0 at (length frame) refl (omega (arith, content_some form kind x))) (omega (arith, content_some form kind x))
@@ -293,7 +293,7 @@ module _ (form : ℕ) (kind : Kind) (dialog : ℕ) (xs : List (Content kind)) wh
     -- and the report has as many elements as were told
     report_back : is_form form ≡ true → (d : List ℕ) → is_group d ≡ false → length frame ≤ longest_frame
         → read_report form d frame ≡ record { refusal = no_refusal; kind = kind; dialog = dialog; count = length xs }
-    unfolding report_of if◌then◌else◌
+    unfolding report_of when◌then◌else◌
     report_back is d single fits =
         let o : List ℕ = pieces (λ _ x. content_octets form kind x) 0 xs in
         report-of form is kind dialog o d single (omega arith) ∙ rw (elements_back, length-map xs (content_read form kind))

@@ -1,7 +1,7 @@
 -- The fields of an event, from the octets behind a report's status: its time fields in a form, and the event's body. One decoder for each kind.
 -- Assumes nothing.
 use Rattle.std.specs.Prelude.{ℕ, List, eqb, length, drop, replicate}
-use Rattle.laws.specs.Choice.{if◌then◌else◌}
+use Rattle.laws.specs.Choice.{when◌then◌else◌}
 use Rattle.octets.specs.Fields.{octets_at}
 use Rattle.octets.specs.Times.{time_at}
 use Rattle.events.specs.declared.times.Times.{Times}
@@ -76,6 +76,6 @@ pub data ReportedEvent : Type 0 where
 
 unfoldable pub decoded : ℕ → ℕ → List ℕ → ReportedEvent
 decoded form ty o =
-    if eqb ty 0 then transition_report (transition_in form o)
-    else if eqb ty 1 then rsna_report (rsna_in form o)
+    when eqb ty 0 then transition_report (transition_in form o)
+    else when eqb ty 1 then rsna_report (rsna_in form o)
     else peer_link_report (peer_link_in form o)

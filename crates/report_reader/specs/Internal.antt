@@ -2,7 +2,7 @@
 -- What the validation of a frame sees of a step, and the step by that and the frame: proofs/Laws.antt has step_of s at (verdict_of (step_at form s kind at)) ≡ step_at form s kind at.
 -- Assumes nothing.
 use Rattle.std.specs.Prelude.{ℕ, ◌+◌, ◌-◌, ◌≤◌, ◌≡◌, true, false, not, List, length, get_or}
-use Rattle.laws.specs.Choice.{if◌then◌else◌}
+use Rattle.laws.specs.Choice.{when◌then◌else◌}
 use Rattle.octets.specs.declared.numbers.Kind.{Kind}
 use Rattle.octets.specs.declared.numbers.Kind.TheVariants.{Event as EventKind, Diagnostic}
 use Rattle.octets.specs.Refusals.{bad_time}
@@ -40,7 +40,7 @@ pub record Fits (s : List ℕ) (at : ℕ) (v : Verdict) : Type 0 where
 -- an element with its fields; or the refusal alone; or, of another ID, the next position alone
 unfoldable pub step_of : List ℕ → ℕ → Verdict → Step
 step_of s at v =
-    if v.found then found_step (found_element s at v) (at + 5) v.next
+    when v.found then found_step (found_element s at v) (at + 5) v.next
     else record { refusal = v.refusal; found = false; element = plain_element 0 0 0 0 0; rest = 0; next = record { at = v.next } }
 
 -- ---- an element's verdict in two steps: its outline, with the length of its event, and then what it holds
@@ -48,8 +48,8 @@ step_of s at v =
 -- the time of an event
 unfoldable pub timed_verdict : ℕ → List ℕ → ℕ → Verdict → Verdict
 timed_verdict form s at v =
-    if not v.logged then v
-    else if not (good_time_at form s (at + 5)) then verdict_of (refused_step bad_time at)
+    when not v.logged then v
+    else when not (good_time_at form s (at + 5)) then verdict_of (refused_step bad_time at)
     else v
 
 -- or the subelements of a diagnostic
@@ -58,7 +58,7 @@ held_by form s EventKind at v = timed_verdict form s at v
 held_by form s Diagnostic at v = verdict_of (diagnostic_step s at (v.next - (at + 2)))
 
 unfoldable pub held : ℕ → List ℕ → Kind → ℕ → Verdict → Verdict
-held form s kind at v = if not v.found then v else held_by form s kind at v
+held form s kind at v = when not v.found then v else held_by form s kind at v
 
 -- what it holds stands in the frame
 pub record Held (s : List ℕ) (at : ℕ) (v : Verdict) : Type 0 where

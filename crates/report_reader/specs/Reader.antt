@@ -3,7 +3,7 @@
 -- Assumes nothing.
 use Rattle.std.specs.Prelude.{ℕ, ◌+◌, ◌-◌, Bool, true, false, not, ◌&&◌, ◌||◌, List, [], ◌∷◌, ◌++◌, length, get_or, ltb, eqb}
 use Rattle.std.proofs.Math.Option.{Option, none, some}
-use Rattle.laws.specs.Choice.{if◌then◌else◌}
+use Rattle.laws.specs.Choice.{when◌then◌else◌}
 use Rattle.laws.specs.Walk.{repeat_while}
 use Rattle.octets.specs.declared.numbers.Kind.{Kind}
 use Rattle.octets.specs.declared.numbers.Kind.TheVariants.{Event as EventKind, Diagnostic}
@@ -59,7 +59,7 @@ logged_step s at n =
 
 -- "event body not 3 with status 1 to 4" (17)
 unfoldable pub bare_step : List ℕ → ℕ → ℕ → Step
-bare_step s at n = if eqb n 3 then plain_step s at n 0 else refused_step bad_report_body at
+bare_step s at n = when eqb n 3 then plain_step s at n 0 else refused_step bad_report_body at
 
 -- the octets of a report body with an event whose body has so many: token, type, status, the time fields in a form, and they
 abbrev pub report_length : ℕ → ℕ → ℕ
@@ -72,8 +72,8 @@ is_rsna_length form first n = eqb n (report_length form (rsna_length first)) || 
 -- has the body of an element of n octets the length of its event type? An RSNA event's goes by the first octet of its EAP method
 unfoldable pub is_event_length : ℕ → List ℕ → ℕ → ℕ → ℕ → Bool
 is_event_length form s at n ty =
-    if eqb ty 0 then eqb n (report_length form transition_length)
-    else if eqb ty 1 then is_rsna_length form (get_or s (at + 5 + time_length form + method_offset) 0) n
+    when eqb ty 0 then eqb n (report_length form transition_length)
+    else when eqb ty 1 then is_rsna_length form (get_or s (at + 5 + time_length form + method_offset) 0) n
     else eqb n (report_length form peer_link_length)
 
 -- the draft's time has its rule (14); the published fields are "carried unread"
@@ -84,22 +84,22 @@ good_time_at form s at = by_form form (good_time (time_at s at)) true
 -- with 17"; then its time (14)
 unfoldable pub typed_step : ℕ → List ℕ → ℕ → ℕ → Step
 typed_step form s at n =
-    if eqb n 3 then plain_step s at n 0
-    else if not (is_event_length form s at n (get_or s (at + 3) 0)) then refused_step bad_report_body at
-    else if not (good_time_at form s (at + 5)) then refused_step bad_time at
+    when eqb n 3 then plain_step s at n 0
+    else when not (is_event_length form s at n (get_or s (at + 3) 0)) then refused_step bad_report_body at
+    else when not (good_time_at form s (at + 5)) then refused_step bad_time at
     else logged_step s at n
 
 -- "For status 0 of other event types the rest is kept unread."
 unfoldable pub event_step : ℕ → List ℕ → ℕ → ℕ → Step
 event_step form s at n =
-    if not (eqb (get_or s (at + 4) 0) successful) then bare_step s at n
-    else if ltb (get_or s (at + 3) 0) tables then typed_step form s at n
+    when not (eqb (get_or s (at + 4) 0) successful) then bare_step s at n
+    else when ltb (get_or s (at + 3) 0) tables then typed_step form s at n
     else plain_step s at n 0
 
 -- "A Diagnostic Report has subelements instead, with any status.": their edges (7)
 unfoldable pub walked_step : List ℕ → ℕ → ℕ → Subelements → Step
 walked_step s at n w =
-    if not (eqb w.refusal.number 0) then refused_step w.refusal.number w.refusal.place
+    when not (eqb w.refusal.number 0) then refused_step w.refusal.number w.refusal.place
     else plain_step s at n w.count
 
 unfoldable pub diagnostic_step : List ℕ → ℕ → ℕ → Step
@@ -112,20 +112,20 @@ kind_step form Diagnostic s at n = diagnostic_step s at n
 -- "Body under 3" (5), "Report status over 4" (17)
 unfoldable pub own_report_step : ℕ → List ℕ → Kind → ℕ → ℕ → Step
 own_report_step form s kind at n =
-    if ltb n 3 then refused_step short_element at
-    else if ltb cancelled (get_or s (at + 4) 0) then refused_step bad_report_body at
+    when ltb n 3 then refused_step short_element at
+    else when ltb cancelled (get_or s (at + 4) 0) then refused_step bad_report_body at
     else kind_step form kind s at n
 
 -- "Element header or body passes the end" (4); "only its own element ID counts .. others are passed over"
 unfoldable pub step_at : ℕ → List ℕ → Kind → ℕ → Step
 step_at form s kind at =
-    if eqb (piece_end s at (length s)) 0 then refused_step element_past_end at
-    else if not (eqb (get_or s at 0) (report_id kind)) then skipped_step (piece_end s at (length s))
+    when eqb (piece_end s at (length s)) 0 then refused_step element_past_end at
+    else when not (eqb (get_or s at 0) (report_id kind)) then skipped_step (piece_end s at (length s))
     else own_report_step form s kind at (get_or s (at + 1) 0)
 
 -- what the cursor hands out. Document 02 (g): "It refuses a form number other than 0 or 1 with 15 (a reader before all else)"
 unfoldable pub cursor_step : ℕ → List ℕ → Kind → ℕ → Step
-cursor_step form s kind at = if not (is_form form) then refused_step bad_requester_list 0 else step_at form s kind at
+cursor_step form s kind at = when not (is_form form) then refused_step bad_requester_list 0 else step_at form s kind at
 
 -- ---- the elements of a frame, as the cursor hands them out, from the front to the end or to the first refusal
 
@@ -136,7 +136,7 @@ pub record ElementRead : Type 0 where
   pub event : Option ReportedEvent
 
 abbrev pub element_read : ℕ → Element → List ℕ → ElementRead
-element_read form e o = record { element = e; behind = o; event = if e.logged then some (decoded form e.ty o) else none }
+element_read form e o = record { element = e; behind = o; event = when e.logged then some (decoded form e.ty o) else none }
 
 abbrev pub element_read_at : ℕ → List ℕ → Step → ElementRead
 element_read_at form s t = element_read form t.element (octets_at s t.rest t.element.length)
@@ -152,8 +152,8 @@ reading refusal at elements = record { refusal = refusal; at = at; elements = el
 -- behind one more element; a refused reading has nothing else
 unfoldable pub gathered : ℕ → List ℕ → Reading → Step → Reading
 gathered form s w t =
-    if not (eqb t.refusal.number 0) then reading t.refusal 0 []
-    else if t.found then reading no_refusal t.next.at (w.elements ++ (element_read_at form s t ∷ []))
+    when not (eqb t.refusal.number 0) then reading t.refusal 0 []
+    else when t.found then reading no_refusal t.next.at (w.elements ++ (element_read_at form s t ∷ []))
     else reading no_refusal t.next.at w.elements
 
 abbrev pub unread : ℕ → Reading → Bool
@@ -174,7 +174,7 @@ refused_report number place = record { refusal = refused number place; kind = Ev
 -- the reading's refusal, or the report
 unfoldable pub report_of : Kind → ℕ → Reading → Report
 report_of kind dialog w =
-    if not (eqb w.refusal.number 0) then refused_report w.refusal.number w.refusal.place
+    when not (eqb w.refusal.number 0) then refused_report w.refusal.number w.refusal.place
     else record { refusal = no_refusal; kind = kind; dialog = dialog; count = length w.elements }
 
 -- the kind that a frame is read as
@@ -184,7 +184,7 @@ report_kind s = frame_kind s (report_action Diagnostic)
 -- its form (15), then "11, 1, 2, then each element": "Group destination" (11), then the frame's head
 unfoldable pub read_report : ℕ → List ℕ → List ℕ → Report
 read_report form destination s =
-    if not (is_form form) then refused_report bad_requester_list 0
-    else if is_group destination then refused_report group_destination 0
-    else if not (eqb (frame_cause s (report_action (report_kind s))) 0) then refused_report (frame_cause s (report_action (report_kind s))) 0
+    when not (is_form form) then refused_report bad_requester_list 0
+    else when is_group destination then refused_report group_destination 0
+    else when not (eqb (frame_cause s (report_action (report_kind s))) 0) then refused_report (frame_cause s (report_action (report_kind s))) 0
     else report_of (report_kind s) (get_or s 2 0) (read_elements form s (report_kind s))

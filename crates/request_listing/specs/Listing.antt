@@ -1,7 +1,7 @@
 -- Document 01, "The frame program": the text that lists a request; every line ends in a line feed.
 -- Assumes nothing.
 use Rattle.std.specs.Prelude.{ℕ, ◌+◌, ◌*◌, not, List, ◌++◌, take, eqb}
-use Rattle.laws.specs.Choice.{if◌then◌else◌}
+use Rattle.laws.specs.Choice.{when◌then◌else◌}
 use Rattle.laws.specs.Buffers.{pieces}
 use Rattle.octets.specs.declared.numbers.Kind.{Kind}
 use Rattle.octets.specs.declared.numbers.Kind.TheVariants.{Event, Diagnostic}
@@ -27,7 +27,7 @@ request_element_lines kind es = pieces (λ (i : ℕ) (e : Element). request_elem
 -- what the frame program prints of a request
 unfoldable pub request_listing : Request → List ℕ
 request_listing r =
-    if not (eqb r.refusal.number 0) then refusal_line r.refusal
+    when not (eqb r.refusal.number 0) then refusal_line r.refusal
     else frame_line (text "frame ") (request_action r.kind) r.dialog r.count ++ request_element_lines r.kind (take r.count r.elements)
 
 -- how many octets the line of an element and the whole have at most

@@ -10,7 +10,7 @@ use lib.Dec.{eqb}
 use borrow.Author.Tests.{eq-eqb, ne_eqb, eqb-false}
 use native.Mathlib.Nat.{add-zero, add_assoc}
 use native.Mathlib.Omega.{arith}
-use Rattle.laws.specs.Choice.{if◌then◌else◌}
+use Rattle.laws.specs.Choice.{when◌then◌else◌}
 use Rattle.laws.specs.Buffers.{pieces}
 use Rattle.laws.proofs.Choice.{either}
 use Rattle.laws.proofs.Walk.{Rest, again, done, go_on, stop_end}
@@ -46,10 +46,10 @@ module _ (ty id : ℕ) (c : Condition) where
 -- a type without a table has none
 module _ (ty : ℕ) (h : tables ≤ ty) where
   no_condition : (c : Condition) (id : ℕ) → condition_octets ty id c ≡ []
-  unfolding condition_octets condition_length if◌then◌else◌
+  unfolding condition_octets condition_length when◌then◌else◌
   no_condition c id =
       rw (no_length ty id (get_or c.octets 0 0) (no_row ty id h))
-      (either (λ (n : ℕ). (if eqb n 0 then [] else framed id (take n c.octets)) ≡ []) c.present 0 0 (λ _. refl) (λ _. refl))
+      (either (λ (n : ℕ). (when eqb n 0 then [] else framed id (take n c.octets)) ≡ []) c.present 0 0 (λ _. refl) (λ _. refl))
 
   pub no_conditions : (cs : List Condition) (id : ℕ) → pieces (condition_octets ty) id cs ≡ []
   unfolding pieces
@@ -69,7 +69,7 @@ blank_condition (suc (suc (suc (suc (suc n))))) h = absurd (omega arith)
 module _ (s : List ℕ) (ty end : ℕ) (w : Subelements) (id : ℕ) (b r : List ℕ) (h : drop w.at s ≡ framed id b ++ r) (fits : w.at + 2 + length b ≤ end)
     (some : 0 < length b) (long : length_of ty id (get_or b 0 0) ≡ length b) (new : (get_or w.filter id past_filter).present ≡ false) where
   step_known : subelement_step s ty end w ≡ past w (w.at + 2 + length b) (set w.filter id (record { present = true; octets = body_at s (w.at + 2) (length b) }))
-  unfolding subelement_step whole_step if◌then◌else◌
+  unfolding subelement_step whole_step when◌then◌else◌
   step_known =
       rw (
         piece_stands s w.at end id b r h fits,
@@ -94,8 +94,8 @@ module _ (s : List ℕ) (ty end : ℕ) (whole : Subelements) where
   one_back : (c : Condition) (front : List Condition) (at n id : ℕ) (r : List ℕ) → length front ≡ id → id < 5 → EightOctets c
       → drop at s ≡ condition_octets ty id c ++ r → at + length (condition_octets ty id c) ≤ end
       → Left at n (front ++ drop id no_filter)
-      → Left (at + length (condition_octets ty id c)) (n + (if eqb (condition_length ty id c) 0 then 0 else 1)) ((front ++ (read_condition ty id c ∷ [])) ++ drop (suc id) no_filter)
-  unfolding condition_octets read_condition if◌then◌else◌
+      → Left (at + length (condition_octets ty id c)) (n + (when eqb (condition_length ty id c) 0 then 0 else 1)) ((front ++ (read_condition ty id c ∷ [])) ++ drop (suc id) no_filter)
+  unfolding condition_octets read_condition when◌then◌else◌
   one_back c front at n id r e small eight h fits left = go (eqb (condition_length ty id c) 0) refl h fits
     where
       x : List ℕ
@@ -104,10 +104,10 @@ module _ (s : List ℕ) (ty end : ℕ) (whole : Subelements) where
       m : ℕ
       m = condition_length ty id c
 
-      go : (t : Bool) → eqb m 0 ≡ t → drop at s ≡ (if t then [] else framed id (take m x)) ++ r
-          → at + length (if t then [] else framed id (take m x)) ≤ end
-          → Left (at + length (if t then [] else framed id (take m x))) (n + (if t then 0 else 1))
-          ((front ++ ((if t then absent else record { present = true; octets = body_at x 0 m }) ∷ [])) ++ drop (suc id) no_filter)
+      go : (t : Bool) → eqb m 0 ≡ t → drop at s ≡ (when t then [] else framed id (take m x)) ++ r
+          → at + length (when t then [] else framed id (take m x)) ≤ end
+          → Left (at + length (when t then [] else framed id (take m x))) (n + (when t then 0 else 1))
+          ((front ++ ((when t then absent else record { present = true; octets = body_at x 0 m }) ∷ [])) ++ drop (suc id) no_filter)
       go true q h fits =
           let p : at + 0 ≡ at = add-zero at in
           let q : n + 0 ≡ n = add-zero n in
@@ -141,7 +141,7 @@ module _ (s : List ℕ) (ty end : ℕ) (whole : Subelements) where
       sym (done left (stop_end 0 at end refl (omega arith))) ∙ rw (p, q, k)
   conditions_back (c ∷ cs) front at n id r (also eight eights) e five h ends left =
       let o : List ℕ = condition_octets ty id c in
-      let one : ℕ = if eqb (condition_length ty id c) 0 then 0 else 1 in
+      let one : ℕ = when eqb (condition_length ty id c) 0 then 0 else 1 in
       let rest : List ℕ = pieces (condition_octets ty) (suc id) cs in
       let h₁ : drop at s ≡ o ++ (rest ++ r) = h ∙ append_assoc o rest r in
       let lo : length (o ++ rest) ≡ length o + length rest = length-append o rest in

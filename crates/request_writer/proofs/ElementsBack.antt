@@ -11,7 +11,7 @@ use borrow.Author.Tests.{le-ltb, lt-leb, eq-eqb, ne_eqb, ltb-false}
 use native.Mathlib.Numerals.{add-one}
 use native.Mathlib.Nat.{add-zero, zero-add}
 use native.Mathlib.Omega.{arith}
-use Rattle.laws.specs.Choice.{if◌then◌else◌}
+use Rattle.laws.specs.Choice.{when◌then◌else◌}
 use Rattle.laws.specs.Buffers.{pieces}
 use Rattle.laws.proofs.Choice.{either}
 use Rattle.laws.proofs.Walk.{Rest, start, again, done, go_on, stop_end}
@@ -75,7 +75,7 @@ module _ (s : List ℕ) (at : ℕ) (e : Element) (r : List ℕ) where
   -- its subelements
   subelements_back : (kind : Kind) (end : ℕ) → Stands kind → ElementLengths e → end ≡ at + length (element_octets kind e)
       → subelements_of s kind at end ≡ at_subelements end (element_back kind e).subs (element_back kind e).filter
-  unfolding subelements_of element_octets element_body element_back walk if◌then◌else◌
+  unfolding subelements_of element_octets element_body element_back walk when◌then◌else◌
   subelements_back Event end h shaped ends = rw (type_at Event h) (go (ltb e.ty tables) refl)
     where
       body : List ℕ
@@ -90,7 +90,7 @@ module _ (s : List ℕ) (at : ℕ) (e : Element) (r : List ℕ) where
           ∙ rw (zero-add (written_conditions e.ty 0 e.filter))
 
       go : (t : Bool) → ltb e.ty tables ≡ t
-          → (if t then walk s e.ty (at + 5) end else walked no_refusal end)
+          → (when t then walk s e.ty (at + 5) end else walked no_refusal end)
           ≡ at_subelements end (written_conditions e.ty 0 e.filter) (read_filter e.ty 0 e.filter)
       go true q = all
       go false q =
@@ -119,7 +119,7 @@ module _ (s : List ℕ) (at : ℕ) (e : Element) (r : List ℕ) where
   -- one step over it
   step_back : (kind : Kind) (n : ℕ) (es : List Element) → Stands kind → ElementLengths e → n < element_capacity → bad_token kind (take n es) e.token ≡ false
       → element_step element_capacity s kind (at_elements at n es) ≡ at_elements (at + length (element_octets kind e)) (n + 1) (set es n (element_back kind e))
-  unfolding element_step own_request_step with_element element_octets if◌then◌else◌
+  unfolding element_step own_request_step with_element element_octets when◌then◌else◌
   step_back kind n es h shaped few good =
       let b : List ℕ = element_body kind e in
       let l = stands-length s at (element_octets kind e) r h (omega arith) in

@@ -9,7 +9,7 @@ use lib.Dec.{eqb, leb, ltb}
 use borrow.Author.Tests.{ne_eqb, eqb-false, leb-true, ltb-true, ltb-false}
 use native.Mathlib.Omega.{arith}
 use native.Mathlib.Nat.{zero-add}
-use Rattle.laws.specs.Choice.{if◌then◌else◌}
+use Rattle.laws.specs.Choice.{when◌then◌else◌}
 use Rattle.laws.specs.Buffers.{pieces}
 use Rattle.laws.proofs.Choice.{either}
 use Rattle.octets.specs.declared.numbers.Kind.{Kind}
@@ -38,10 +38,10 @@ room ty id = get_or (get_or rooms ty []) id 0
 
 -- those of one ID
 abbrev most : ℕ → ℕ
-most n = if eqb n 0 then 0 else 2 + n
+most n = when eqb n 0 then 0 else 2 + n
 
 room_next : (ty id : ℕ) → id < 5 → most (row_of ty id).expanded + room ty (suc id) ≤ room ty id
-unfolding if◌then◌else◌
+unfolding when◌then◌else◌
 room_next ty id h = go (ltb ty tables) refl
   where
     test : ℕ → ℕ → Bool
@@ -52,13 +52,13 @@ room_next ty id h = go (ltb ty tables) refl
     go false t = rw (no_row ty id (ltb-false ty tables t), get_or-eq_default rooms [] {n = ty} (ltb-false ty tables t)) (omega arith)
 
 condition-length : (ty id : ℕ) (c : Condition) → length (condition_octets ty id c) ≤ most (row_of ty id).expanded
-unfolding condition_octets if◌then◌else◌
+unfolding condition_octets when◌then◌else◌
 condition-length ty id c = go (eqb (condition_length ty id c) 0) refl
   where
     n : ℕ
     n = condition_length ty id c
 
-    go : (b : Bool) → eqb n 0 ≡ b → length (if b then [] else framed id (take n c.octets)) ≤ most (row_of ty id).expanded
+    go : (b : Bool) → eqb n 0 ≡ b → length (when b then [] else framed id (take n c.octets)) ≤ most (row_of ty id).expanded
     go true t = omega arith
     go false t =
         let p = eqb-false n 0 t in

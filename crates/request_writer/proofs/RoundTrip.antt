@@ -10,7 +10,7 @@ use lib.Dec.{ltb, eqb}
 use borrow.Author.Tests.{eq-eqb, eqb-true, eqb-false, ltb-false, not-true, not-false}
 use native.Mathlib.Nat.{zero-add}
 use native.Mathlib.Omega.{arith}
-use Rattle.laws.specs.Choice.{if◌then◌else◌}
+use Rattle.laws.specs.Choice.{when◌then◌else◌}
 use Rattle.laws.specs.Members.{All}
 use Rattle.laws.proofs.Members.{all_take}
 use Rattle.laws.proofs.Choice.{either}
@@ -107,7 +107,7 @@ module _ (kind : Kind) (dialog : ℕ) (es : List Element) (count : ℕ) (s : Lis
   frame-fits = omega (arith, elements-length kind 0 (take count es) (all_take count es shapes), asked-length, a.few)
 
   pub frame-written : take (write_answer kind dialog es count (length s)).length (write_octets kind dialog es count s) ≡ frame
-  unfolding write_octets if◌then◌else◌
+  unfolding write_octets when◌then◌else◌
   frame-written = rw (frame-length, eq-eqb _ 0 ok) (take-append_seam frame (drop (length frame) s))
 
   frame-kind : request_kind frame ≡ kind
@@ -115,11 +115,11 @@ module _ (kind : Kind) (dialog : ℕ) (es : List Element) (count : ℕ) (s : Lis
   frame-kind = head_kind dialog (elements_octets kind (take count es)) request_action refl kind
 
   frame_header : header_cause frame kind ≡ 0
-  unfolding header_cause frame_octets if◌then◌else◌
+  unfolding header_cause frame_octets when◌then◌else◌
   frame_header = rw (head-accepted dialog (elements_octets kind (take count es)) (request_action kind) (omega (arith, frame-fits)), a.dialog_token)
 
   frame-read : read_request element_capacity frame ≡ read_back kind dialog es count
-  unfolding read_request request_of frame_octets read_back if◌then◌else◌
+  unfolding read_request request_of frame_octets read_back when◌then◌else◌
   frame-read = rw (frame-kind, frame_header, walk_back, a.some)
 
   reads_back : read_request element_capacity (take (write_answer kind dialog es count (length s)).length (write_octets kind dialog es count s)) ≡ read_back kind dialog es count
@@ -160,7 +160,7 @@ module _ (kind : Kind) (dialog : ℕ) (es : List Element) (count : ℕ) (shapes 
 
   pub echo_read : (s y : List ℕ) (w : Written) (r : Request) → length s ≡ 267 → outcome w y ≡ write_request kind dialog es count s → r ≡ read_request element_capacity (take w.length y)
       → r ≡ echoed kind dialog es count
-  unfolding echoed frame_kind frame_cause header_cause read_request if◌then◌else◌
+  unfolding echoed frame_kind frame_cause header_cause read_request when◌then◌else◌
   echo_read s y w r long wrote read = rw (← long) (go (eqb (write_answer kind dialog es count (length s)).refusal.number 0) refl)
     where
       len : w.length ≡ (write_answer kind dialog es count (length s)).length
@@ -169,6 +169,6 @@ module _ (kind : Kind) (dialog : ℕ) (es : List Element) (count : ℕ) (shapes 
       octets : y ≡ write_octets kind dialog es count s
       octets = ap (λ (o : WriteOutcome). o.octets) wrote
 
-      go : (t : Bool) → eqb (write_answer kind dialog es count (length s)).refusal.number 0 ≡ t → r ≡ (if t then read_back kind dialog es count else refused_request bad_frame_length 0)
+      go : (t : Bool) → eqb (write_answer kind dialog es count (length s)).refusal.number 0 ≡ t → r ≡ (when t then read_back kind dialog es count else refused_request bad_frame_length 0)
       go true q = read ∙ rw (len, octets) (reads_back kind dialog es count s eight shapes (eqb-true _ 0 q))
       go false q = read ∙ rw (len, (answer_bounded (length s)).refused-zero (eqb-false _ 0 q))

@@ -10,7 +10,7 @@ use borrow.Author.Tests.{eq-eqb, ne_eqb, lt-ltb, le-ltb}
 use borrow.Rule.Slice.PartMut.{put_mid}
 use native.Mathlib.Numerals.{add-one}
 use native.Mathlib.Omega.{arith}
-use Rattle.laws.specs.Choice.{if◌then◌else◌}
+use Rattle.laws.specs.Choice.{when◌then◌else◌}
 use Rattle.laws.specs.Buffers.{onto, pieces, wrote, put_at}
 use Rattle.laws.proofs.Buffers.{length-onto, lent, lent_length, putting_start, putting_at, putting_done}
 use Rattle.octets.specs.declared.numbers.Kind.{Kind}
@@ -50,11 +50,11 @@ tail_length s a h = length-take-le (length s - a) (drop a s) (omega (arith, leng
 
 module _ (ty id : ℕ) (c : Condition) where
   pub absent-octets : condition_length ty id c ≡ 0 → condition_octets ty id c ≡ []
-  unfolding condition_octets if◌then◌else◌
+  unfolding condition_octets when◌then◌else◌
   absent-octets e = rw (eq-eqb _ 0 e)
 
   present_octets : (condition_length ty id c ≡ 0 → ⊥) → condition_octets ty id c ≡ framed id (take (condition_length ty id c) c.octets)
-  unfolding condition_octets if◌then◌else◌
+  unfolding condition_octets when◌then◌else◌
   present_octets e = rw (ne_eqb _ 0 e)
 
   -- the first octets of a condition's array of ten
@@ -113,13 +113,13 @@ module _ {kind : Kind} {es : List Element} {count : ℕ} {s buf : List ℕ} {at 
     taken = rw add-one (take-suc es i past_elements (omega (arith, l.eight)))
 
     pub laying_bad : bad_token kind (take i es) (get_or es i past_elements).token ≡ true → refused_written bad_element_token (3 + at) ≡ elements_answer kind es count
-    unfolding elements_answer token_refusal if◌then◌else◌
+    unfolding elements_answer token_refusal when◌then◌else◌
     laying_bad b = rw (← l.left, take_next es past_elements count i more (omega (arith, l.eight)), b, l.ends)
 
     pub laying_next : (n : ℕ) (y : List ℕ) → bad_token kind (take i es) (get_or es i past_elements).token ≡ false → n ≡ length (element_octets kind (get_or es i past_elements)) → n ≤ 33
         → y ≡ onto (element_octets kind (get_or es i past_elements)) (take (length buf - at) (drop at buf))
         → Laying kind es count s (put_mid at (length buf - at) buf y) (at + n) (i + 1)
-    unfolding token_refusal if◌then◌else◌
+    unfolding token_refusal when◌then◌else◌
     laying_next n y b is short does =
         let x : Element = get_or es i past_elements in
         let h : List ℕ = elements_octets kind (take i es) in
@@ -137,13 +137,13 @@ module _ {kind : Kind} {es : List Element} {count : ℕ} {s buf : List ℕ} {at 
         }
 
   pub laying_ninth : i < count → element_capacity ≤ i → refused_written too_many_elements (3 + at) ≡ elements_answer kind es count
-  unfolding elements_answer token_refusal if◌then◌else◌
+  unfolding elements_answer token_refusal when◌then◌else◌
   laying_ninth more h =
       let all : take i es ≡ es = take_all i es (omega (arith, l.eight)) in
       rw (← l.left, drop_of_length-le (take count es) {i = i} (omega (arith, length-take count es, l.eight)), lt-ltb element_capacity count (omega (arith, h, more)), l.ends, all)
 
   pub laying_end : count ≤ i → written_length (3 + at) ≡ elements_answer kind es count
-  unfolding elements_answer token_refusal if◌then◌else◌
+  unfolding elements_answer token_refusal when◌then◌else◌
   laying_end h =
       let k : i ≡ count = omega (arith, l.within) in
       rw (← l.left, drop_of_length-le (take count es) {i = i} (omega (arith, length-take count es, l.eight)), le-ltb element_capacity count (omega (arith, l.few)), l.ends, k)
@@ -155,24 +155,24 @@ module _ {kind : Kind} {es : List Element} {count : ℕ} {s buf : List ℕ} {at 
 
 module _ (kind : Kind) (dialog : ℕ) (es : List Element) (count : ℕ) (s : List ℕ) where
   pub short : length s < 267 → refused_written short_buffer 0 ≡ write_answer kind dialog es count (length s)
-  unfolding write_answer if◌then◌else◌
+  unfolding write_answer when◌then◌else◌
   short h = rw (lt-ltb (length s) 267 h)
 
   pub no_dialog : 267 ≤ length s → dialog ≡ 0 → refused_written zero_dialog_token 0 ≡ write_answer kind dialog es count (length s)
-  unfolding write_answer if◌then◌else◌
+  unfolding write_answer when◌then◌else◌
   no_dialog h z = rw (le-ltb (length s) 267 h, eq-eqb dialog 0 z)
 
   pub answered : 267 ≤ length s → (dialog ≡ 0 → ⊥) → frame_answer kind count (elements_answer kind es count) ≡ write_answer kind dialog es count (length s)
-  unfolding write_answer if◌then◌else◌
+  unfolding write_answer when◌then◌else◌
   answered h z = rw (le-ltb (length s) 267 h, ne_eqb dialog 0 z)
 
   pub nothing_written : (w : Written) → w ≡ write_answer kind dialog es count (length s) → (w.refusal.number ≡ 0 → ⊥) → outcome w s ≡ write_request kind dialog es count s
-  unfolding write_octets if◌then◌else◌
+  unfolding write_octets when◌then◌else◌
   nothing_written w e n = rw (← e, ne_eqb w.refusal.number 0 n)
 
   pub frame-written : (w : Written) → w ≡ write_answer kind dialog es count (length s) → w.refusal.number ≡ 0 → (y : List ℕ) → y ≡ onto (frame_octets kind dialog (take count es)) s
       → outcome w y ≡ write_request kind dialog es count s
-  unfolding write_octets if◌then◌else◌
+  unfolding write_octets when◌then◌else◌
   frame-written w e n y is = rw (← e, eq-eqb w.refusal.number 0 n, is)
 
 -- an accepted answer: the elements stand in the body

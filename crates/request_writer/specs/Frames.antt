@@ -1,7 +1,7 @@
 -- Document 01, "Frames and elements": the octets of a request frame.
 -- Assumes nothing.
 use Rattle.std.specs.Prelude.{ℕ, List, [], ◌∷◌, get_or, take, eqb}
-use Rattle.laws.specs.Choice.{if◌then◌else◌}
+use Rattle.laws.specs.Choice.{when◌then◌else◌}
 use Rattle.laws.specs.Buffers.{pieces}
 use Rattle.octets.specs.declared.numbers.Kind.{Kind}
 use Rattle.octets.specs.declared.numbers.Kind.TheVariants.{Event, Diagnostic}
@@ -15,12 +15,12 @@ use Rattle.requests.specs.declared.Element.{Element}
 -- how many octets of a condition are written in a request for an event type: the length of the type's table for its ID, by its first octet;
 -- none where it is absent, or where the table has no length
 unfoldable pub condition_length : ℕ → ℕ → Condition → ℕ
-condition_length ty id c = if c.present then length_of ty id (get_or c.octets 0 0) else 0
+condition_length ty id c = when c.present then length_of ty id (get_or c.octets 0 0) else 0
 
 -- one with octets is a subelement
 unfoldable pub condition_octets : ℕ → ℕ → Condition → List ℕ
 condition_octets ty id c =
-    if eqb (condition_length ty id c) 0 then []
+    when eqb (condition_length ty id c) 0 then []
     else framed id (take (condition_length ty id c) c.octets)
 
 -- "Writers put subelements in rising ID order"

@@ -2,7 +2,7 @@
 -- 0, or absent. The proof of the round trip is in proofs/RoundTrip.antt.
 -- Assumes nothing.
 use Rattle.std.specs.Prelude.{ℕ, suc, ◌+◌, ◌≡◌, true, List, [], ◌∷◌, ◌++◌, map, length, take, drop, eqb}
-use Rattle.laws.specs.Choice.{if◌then◌else◌}
+use Rattle.laws.specs.Choice.{when◌then◌else◌}
 use Rattle.laws.specs.Members.{All}
 use Rattle.octets.specs.declared.numbers.Kind.{Kind}
 use Rattle.octets.specs.declared.numbers.Kind.TheVariants.{Event, Diagnostic}
@@ -20,7 +20,7 @@ use Rattle.request_writer.specs.Writer.{write_answer, write_octets}
 -- a condition: the octets that are written, 0 past them
 unfoldable pub read_condition : ℕ → ℕ → Condition → Condition
 read_condition ty id c =
-    if eqb (condition_length ty id c) 0 then absent
+    when eqb (condition_length ty id c) 0 then absent
     else record { present = true; octets = body_at c.octets 0 (condition_length ty id c) }
 
 -- those from an ID on
@@ -31,7 +31,7 @@ read_filter ty id (c ∷ cs) = read_condition ty id c ∷ read_filter ty (suc id
 -- how many of them are written
 unfoldable pub written_conditions : ℕ → ℕ → List Condition → ℕ
 written_conditions ty id [] = 0
-written_conditions ty id (c ∷ cs) = (if eqb (condition_length ty id c) 0 then 0 else 1) + written_conditions ty (suc id) cs
+written_conditions ty id (c ∷ cs) = (when eqb (condition_length ty id c) 0 then 0 else 1) + written_conditions ty (suc id) cs
 
 -- an event has a limit, and the conditions of its type; a diagnostic has a timeout
 unfoldable pub element_back : Kind → Element → Element
@@ -73,5 +73,5 @@ RequestRoundTrip =
 -- written and then read: the request, or where the writer refuses, what an empty frame reads to
 unfoldable pub echoed : Kind → ℕ → List Element → ℕ → Request
 echoed kind dialog es count =
-    if eqb (write_answer kind dialog es count request_buffer).refusal.number 0 then read_back kind dialog es count
+    when eqb (write_answer kind dialog es count request_buffer).refusal.number 0 then read_back kind dialog es count
     else refused_request bad_frame_length 0

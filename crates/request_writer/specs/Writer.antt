@@ -2,7 +2,7 @@
 -- have had."
 -- Assumes nothing.
 use Rattle.std.specs.Prelude.{ℕ, ◌+◌, not, List, [], ◌∷◌, ◌++◌, length, take, ltb, eqb}
-use Rattle.laws.specs.Choice.{if◌then◌else◌}
+use Rattle.laws.specs.Choice.{when◌then◌else◌}
 use Rattle.laws.specs.Buffers.{onto}
 use Rattle.octets.specs.declared.numbers.Kind.{Kind}
 use Rattle.octets.specs.declared.refusals.Refusal.{Refusal}
@@ -22,7 +22,7 @@ place_behind kind front = 3 + length (elements_octets kind front)
 unfoldable pub token_refusal : Kind → List Element → List Element → Refusal
 token_refusal kind front [] = no_refusal
 token_refusal kind front (e ∷ es) =
-    if bad_token kind front e.token then refused bad_element_token (place_behind kind front)
+    when bad_token kind front e.token then refused bad_element_token (place_behind kind front)
     else token_refusal kind (front ++ (e ∷ [])) es
 
 abbrev pub refused_written : ℕ → ℕ → Written
@@ -35,28 +35,28 @@ written_length n = record { refusal = no_refusal; length = n }
 unfoldable pub elements_answer : Kind → List Element → ℕ → Written
 elements_answer kind es count =
     let bad = token_refusal kind [] (take count es) in
-    if not (eqb bad.number 0) then refused_written bad.number bad.place
-    else if ltb element_capacity count then refused_written too_many_elements (place_behind kind es)
+    when not (eqb bad.number 0) then refused_written bad.number bad.place
+    else when ltb element_capacity count then refused_written too_many_elements (place_behind kind es)
     else written_length (place_behind kind (take count es))
 
 -- "Diagnostic Request frame without one" (10)
 unfoldable pub frame_answer : Kind → ℕ → Written → Written
 frame_answer kind count w =
-    if not (eqb w.refusal.number 0) then w
-    else if lacks_element kind count then refused_written no_element 0
+    when not (eqb w.refusal.number 0) then w
+    else when lacks_element kind count then refused_written no_element 0
     else w
 
 -- the answer for a buffer of a length: the length of the frame, or a refusal
 unfoldable pub write_answer : Kind → ℕ → List Element → ℕ → ℕ → Written
 write_answer kind dialog es count room =
-    if ltb room request_buffer then refused_written short_buffer 0
-    else if eqb dialog 0 then refused_written zero_dialog_token 0
+    when ltb room request_buffer then refused_written short_buffer 0
+    else when eqb dialog 0 then refused_written zero_dialog_token 0
     else frame_answer kind count (elements_answer kind es count)
 
 -- "The answer is the frame's length; octets past it keep their values, for the request writer too." A refusal writes none.
 unfoldable pub write_octets : Kind → ℕ → List Element → ℕ → List ℕ → List ℕ
 write_octets kind dialog es count s =
-    if eqb (write_answer kind dialog es count (length s)).refusal.number 0 then onto (frame_octets kind dialog (take count es)) s
+    when eqb (write_answer kind dialog es count (length s)).refusal.number 0 then onto (frame_octets kind dialog (take count es)) s
     else s
 
 -- the answer, and the buffer afterwards

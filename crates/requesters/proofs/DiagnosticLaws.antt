@@ -12,25 +12,25 @@ use native.Mathlib.Numerals.{add-one}
 use native.Mathlib.Omega.{arith}
 use borrow.Author.Tests.{lt-ltb}
 use Rattle.laws.specs.Members.{any}
-use Rattle.laws.specs.Choice.{if◌then◌else◌}
+use Rattle.laws.specs.Choice.{when◌then◌else◌}
 use Rattle.model.specs.declared.Diagnostic.{Diagnostic}
 use Rattle.laws.proofs.Tests.{some_here, some_later, some_none, some_behind}
 use Rattle.model.specs.Diagnostics.{diagnostic_treatment, is_cancel, holds_cancel, is_late, on_time, unless_over}
 
 -- a request by the number of its elements
 pub unless-over : (dialog accepted : ℕ) (xs : List Diagnostic) (n : ℕ) → length xs ≡ n
-    → (if ltb 0 n then some (record { dialog = dialog; accepted = accepted; elements = xs }) else none) ≡ unless_over dialog accepted xs
-unfolding unless_over if◌then◌else◌
+    → (when ltb 0 n then some (record { dialog = dialog; accepted = accepted; elements = xs }) else none) ≡ unless_over dialog accepted xs
+unfolding unless_over when◌then◌else◌
 unless-over dialog accepted [] n e = rw (← e)
 unless-over dialog accepted (x ∷ xs) n e = rw (lt-ltb 0 n (omega arith))
 
 module _ (since : ℕ → ℕ → ℕ) (now accepted : ℕ) where
   -- the late drop of one element after the other
   pub on_time_cons : (x : Diagnostic) (xs : List Diagnostic) → on_time since now accepted (x ∷ []) ++ on_time since now accepted xs ≡ on_time since now accepted (x ∷ xs)
-  unfolding on_time if◌then◌else◌
+  unfolding on_time when◌then◌else◌
   on_time_cons x xs = go (is_late since now accepted x)
     where
-      go : (b : Bool) → (if b then [] else x ∷ []) ++ on_time since now accepted xs ≡ (if b then on_time since now accepted xs else x ∷ on_time since now accepted xs)
+      go : (b : Bool) → (when b then [] else x ∷ []) ++ on_time since now accepted xs ≡ (when b then on_time since now accepted xs else x ∷ on_time since now accepted xs)
       go true = refl
       go false = refl
 
@@ -44,11 +44,11 @@ module _ (since : ℕ → ℕ → ℕ) (now accepted : ℕ) where
   -- what a place adds to what is kept: its element at the next place of es, or nothing
   pub on_time-kept : (x : Diagnostic) (es : List Diagnostic) (n : ℕ) → n < length es → is_late since now accepted x ≡ false
       → take (n + 1) (set es n x) ≡ take n es ++ on_time since now accepted (x ∷ [])
-  unfolding on_time if◌then◌else◌
+  unfolding on_time when◌then◌else◌
   on_time-kept x es n h e = rw (e, add-one) (take-suc-set es n x h)
 
   pub on_time-late : (x : Diagnostic) (k : List Diagnostic) → is_late since now accepted x ≡ true → k ≡ k ++ on_time since now accepted (x ∷ [])
-  unfolding on_time if◌then◌else◌
+  unfolding on_time when◌then◌else◌
   on_time-late x k e = rw e (sym (append-nil k))
 
   pub on_time_end : (l : List Diagnostic) (i : ℕ) (k whole : List Diagnostic) → length l ≤ i → k ++ on_time since now accepted (drop i l) ≡ whole → k ≡ whole

@@ -3,7 +3,7 @@
 -- Assumes nothing.
 use Rattle.std.specs.Prelude.{ℕ, List, eqb, take, drop}
 use Rattle.std.proofs.Math.Option.{Option, none, some}
-use Rattle.laws.specs.Choice.{if◌then◌else◌}
+use Rattle.laws.specs.Choice.{when◌then◌else◌}
 use Rattle.model.specs.Model.{EventRequest, DiagnosticRequest, Requester, Answer, accepted, nothing, of_length, turned_away}
 use Rattle.model.specs.Stations.{Served, served}
 use Rattle.requesters.specs.declared.Served.{Served as CodeServed}
@@ -26,11 +26,11 @@ abbrev pub progress_of : CodeEventRequest → Progress
 progress_of r = record { first = r.first; given = r.given; below = r.below }
 
 unfoldable pub view_events : CodeEventRequest → Option EventRequest
-view_events r = if r.outstanding then some (events_at r (progress_of r)) else none
+view_events r = when r.outstanding then some (events_at r (progress_of r)) else none
 
 unfoldable pub view_diagnostics : CodeDiagnosticRequest → Option DiagnosticRequest
 view_diagnostics r =
-    if r.outstanding then some (record { dialog = r.dialog; accepted = r.accepted.0; elements = left r.first r.count r.elements })
+    when r.outstanding then some (record { dialog = r.dialog; accepted = r.accepted.0; elements = left r.first r.count r.elements })
     else none
 
 unfoldable pub view_requester : CodeRequester → Requester
@@ -45,7 +45,7 @@ view_answer (Refused r) = turned_away r
 
 -- a length of 0: no identity
 unfoldable pub view_identity : ℕ → List ℕ → Option (List ℕ)
-view_identity n octets = if eqb n 0 then none else some (take n octets)
+view_identity n octets = when eqb n 0 then none else some (take n octets)
 
 -- what a call makes of its requester, with the lent buffer afterwards
 abbrev pub view_served : CodeServed → List ℕ → Served

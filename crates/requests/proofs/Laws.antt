@@ -9,7 +9,7 @@ use lib.ListN.{length, get_or, set, take, drop, length-take, length-set, drop_of
 use borrow.Author.Tests.{eq-eqb, ne_eqb, eqb-true, eqb-false, leb-false, le-leb, lt-leb, lt-ltb, le-ltb, not-true, not-false}
 use native.Mathlib.Omega.{arith}
 use Rattle.laws.specs.Members.{any}
-use Rattle.laws.specs.Choice.{if◌then◌else◌}
+use Rattle.laws.specs.Choice.{when◌then◌else◌}
 use Rattle.laws.proofs.Choice.{either, never}
 use Rattle.laws.proofs.Walk.{Rest, start, last, again, done, go_on, stop_refused, stop_end, keeps_while, keeps, and_first}
 use Rattle.laws.proofs.Arrays.{take_next}
@@ -65,13 +65,13 @@ module _ (s : List ℕ) (ty from end : ℕ) where
 -- the walk from where they start
 pub subelements-from : (s : List ℕ) (kind : Kind) (at end : ℕ)
     → walk s (table_of kind (get_or s (at + 3) 0)) (subelements_start s kind at end) end ≡ subelements_of s kind at end
-unfolding subelements_of subelements_start if◌then◌else◌
+unfolding subelements_of subelements_start when◌then◌else◌
 subelements-from s Event at end = go (ltb (get_or s (at + 3) 0) tables)
   where
     ty : ℕ
     ty = get_or s (at + 3) 0
 
-    go : (b : Bool) → walk s ty (if b then at + 5 else end) end ≡ (if b then walk s ty (at + 5) end else walked no_refusal end)
+    go : (b : Bool) → walk s ty (when b then at + 5 else end) end ≡ (when b then walk s ty (at + 5) end else walked no_refusal end)
     go true = refl
     go false = walk-at_end s ty end
 subelements-from s Diagnostic at end = refl
@@ -145,11 +145,11 @@ request_some most s =
 module _ (es : List Element) (n token i : ℕ) where
   module _ (h : i < n) (k : i < length es) where
     pub token_found : (get_or es i past_elements).token ≡ token → has_token (drop i (take n es)) token ≡ true
-    unfolding any if◌then◌else◌
+    unfolding any when◌then◌else◌
     token_found e = rw (take_next es past_elements n i h k, eq-eqb _ token e)
 
     pub token_next : ((get_or es i past_elements).token ≡ token → ⊥) → has_token (drop i (take n es)) token ≡ has_token (drop (i + 1) (take n es)) token
-    unfolding any if◌then◌else◌
+    unfolding any when◌then◌else◌
     token_next e = rw (take_next es past_elements n i h k, ne_eqb _ token e)
 
   pub token_none : length (take n es) ≤ i → has_token (drop i (take n es)) token ≡ false
@@ -180,7 +180,7 @@ unfolding walk_elements
 walking_start s kind = record { eight = refl; rest = start _ _ (length s) _ _ (omega arith) }
 
 refused-walk : (kind : Kind) (dialog n p : ℕ) → (n ≡ 0 → ⊥) → refused_request n p ≡ request_of kind dialog (refused_elements n p)
-unfolding request_of if◌then◌else◌
+unfolding request_of when◌then◌else◌
 refused-walk kind dialog n p z = rw (ne_eqb n 0 z)
 
 module _ {s : List ℕ} {kind : Kind} {at count : ℕ} {es : List Element} (i : Walking s kind at count es) (dialog : ℕ) where
@@ -195,12 +195,12 @@ module _ {s : List ℕ} {kind : Kind} {at count : ℕ} {es : List Element} (i : 
     ended = ap (request_of kind dialog) (done i.rest (stop_end _ _ _ refl h))
 
     pub lacks : {r : Request} {lacking : Bool} → lacking ≡ lacks_element kind count → lacking ≡ true → r ≡ refused_request no_element 0 → Reads r
-    unfolding request_of if◌then◌else◌
+    unfolding request_of when◌then◌else◌
     lacks f x q = q ∙ rw (← f, x) at ended
 
     pub found : {lacking : Bool} → lacking ≡ lacks_element kind count → lacking ≡ false
         → Reads (record { refusal = no_refusal; kind = kind; dialog = dialog; count = count; elements = es })
-    unfolding request_of if◌then◌else◌
+    unfolding request_of when◌then◌else◌
     found f x = rw (← f, x) at ended
 
   module _ (h : at < length s) {end : ℕ} (e : end ≡ piece_end s at (length s)) where
@@ -209,7 +209,7 @@ module _ {s : List ℕ} {kind : Kind} {at count : ℕ} {es : List Element} (i : 
         q ∙ refused-walk kind dialog n p z ∙ ap (request_of kind dialog) (last i.rest (go_on _ _ _ refl h) (omega arith) f (stop_refused n 0 (length s) z))
 
     pub refused_edge : {r : Request} → end ≡ 0 → r ≡ refused_request element_past_end at → Reads r
-    unfolding element_step if◌then◌else◌
+    unfolding element_step when◌then◌else◌
     refused_edge z q = refuses 4 _ (λ x. omega arith) q (rw (← e, eq-eqb end 0 z))
 
     module _ (z : end ≡ 0 → ⊥) where
@@ -227,38 +227,38 @@ module _ {s : List ℕ} {kind : Kind} {at count : ℕ} {es : List Element} (i : 
 
       module _ {id own : ℕ} (d : id ≡ get_or s at 0) (o : own ≡ request_id kind) where
         pub passed_over : (id ≡ own → ⊥) → Walking s kind end count es
-        unfolding element_step if◌then◌else◌
+        unfolding element_step when◌then◌else◌
         passed_over y = goes count es i.eight (rw (← e, ne_eqb end 0 z, ← d, ← o, ne_eqb id own y))
 
         module _ (y : id ≡ own) where
           owns : own_request_step element_capacity s kind w end ≡ element_step element_capacity s kind w
-          unfolding element_step if◌then◌else◌
+          unfolding element_step when◌then◌else◌
           owns = rw (← e, ne_eqb end 0 z, ← d, ← o, eq-eqb id own y)
 
           pub refused_ninth : {r : Request} → element_capacity ≤ count → r ≡ refused_request too_many_elements at → Reads r
-          unfolding own_request_step if◌then◌else◌
+          unfolding own_request_step when◌then◌else◌
           refused_ninth k q = refuses 9 _ (λ x. omega arith) q (rw (← owns, le-leb element_capacity count k))
 
           module _ (k : count < element_capacity) {n least : ℕ} (m : n ≡ get_or s (at + 1) 0) (b : least ≡ least_body kind) where
             pub refused-length : {r : Request} → n < least → r ≡ refused_request short_element at → Reads r
-            unfolding own_request_step if◌then◌else◌
+            unfolding own_request_step when◌then◌else◌
             refused-length l q = refuses 5 _ (λ x. omega arith) q (rw (← owns, lt-leb element_capacity count k, ← m, ← b, lt-ltb n least l))
 
             module _ (l : least ≤ n) {t : ℕ} {bad : Bool} (g : t ≡ get_or s (at + 2) 0) (f : bad ≡ bad_token kind (take count es) t) where
               pub refused_token : {r : Request} → bad ≡ true → r ≡ refused_request bad_element_token at → Reads r
-              unfolding own_request_step if◌then◌else◌
+              unfolding own_request_step when◌then◌else◌
               refused_token x q = refuses 6 _ (λ x. omega arith) q (rw (← owns, lt-leb element_capacity count k, ← m, ← b, le-ltb n least l, ← g, ← f, x))
 
               module _ (x : bad ≡ false) {subs : Subelements} (u : subs ≡ subelements_of s kind at end) where
                 with-subelements : with_element s kind w end subs ≡ element_step element_capacity s kind w
-                unfolding own_request_step if◌then◌else◌
+                unfolding own_request_step when◌then◌else◌
                 with-subelements = rw (← owns, lt-leb element_capacity count k, ← m, ← b, le-ltb n least l, ← g, ← f, x, ← u)
 
                 pub refused-subelements : {r : Request} → (subs.refusal.number ≡ 0 → ⊥) → r ≡ refused_request subs.refusal.number subs.refusal.place → Reads r
-                unfolding with_element if◌then◌else◌
+                unfolding with_element when◌then◌else◌
                 refused-subelements v q = refuses _ _ v q (rw (← with-subelements, ne_eqb subs.refusal.number 0 v))
 
                 pub added : {a : Element} → subs.refusal.number ≡ 0 → a ≡ element_of s kind at subs → Walking s kind end (count + 1) (set es count a)
-                unfolding with_element if◌then◌else◌
+                unfolding with_element when◌then◌else◌
                 added v q =
                     rw q (goes (count + 1) (set es count _) (length-set es count _ ∙ i.eight) (rw (← with-subelements, eq-eqb subs.refusal.number 0 v)))

@@ -2,7 +2,7 @@
 -- Assumes nothing.
 use Rattle.std.specs.Prelude.{ℕ, ◌+◌, Bool, true, false, not, ◌&&◌, List, [], length, get_or, set, take, replicate, ltb, leb, eqb}
 use Rattle.laws.specs.Members.{any}
-use Rattle.laws.specs.Choice.{if◌then◌else◌}
+use Rattle.laws.specs.Choice.{when◌then◌else◌}
 use Rattle.laws.specs.Walk.{repeat_while}
 use Rattle.octets.specs.declared.numbers.Kind.{Kind}
 use Rattle.octets.specs.declared.numbers.Kind.TheVariants.{Event, Diagnostic}
@@ -37,7 +37,7 @@ table_of Diagnostic ty = tables
 
 -- "other event bodies are not read past the limit"
 unfoldable pub subelements_of : List ℕ → Kind → ℕ → ℕ → Subelements
-subelements_of s Event at end = if ltb (get_or s (at + 3) 0) tables then walk s (get_or s (at + 3) 0) (at + 5) end else walked no_refusal end
+subelements_of s Event at end = when ltb (get_or s (at + 3) 0) tables then walk s (get_or s (at + 3) 0) (at + 5) end else walked no_refusal end
 subelements_of s Diagnostic at end = walk s tables (at + 6) end
 
 abbrev pub element_of : List ℕ → Kind → ℕ → Subelements → Element
@@ -77,7 +77,7 @@ zero_token Diagnostic token = false
 
 -- "Token repeated among a frame's requests, or event token 0", behind some elements
 unfoldable pub bad_token : Kind → List Element → ℕ → Bool
-bad_token kind es token = if zero_token kind token then true else has_token es token
+bad_token kind es token = when zero_token kind token then true else has_token es token
 
 -- how far a walk has come: refused, or the next position, and the elements so far: the first count; the other places are blank
 pub record ElementWalk : Type 0 where
@@ -100,22 +100,22 @@ passed w end = record { refusal = no_refusal; at = end; count = w.count; element
 -- the refusal of the element's subelements, or one element more
 unfoldable pub with_element : List ℕ → Kind → ElementWalk → ℕ → Subelements → ElementWalk
 with_element s kind w end subs =
-    if not (eqb subs.refusal.number 0) then refused_elements subs.refusal.number subs.refusal.place
+    when not (eqb subs.refusal.number 0) then refused_elements subs.refusal.number subs.refusal.place
     else record { refusal = no_refusal; at = end; count = w.count + 1; elements = set w.elements w.count (element_of s kind w.at subs) }
 
 -- a whole element of the frame's own ID, which ends at end: "9, 5, 6, then its subelements"; of at most so many elements
 unfoldable pub own_request_step : ℕ → List ℕ → Kind → ElementWalk → ℕ → ElementWalk
 own_request_step most s kind w end =
-    if leb most w.count then refused_elements too_many_elements w.at
-    else if ltb (get_or s (w.at + 1) 0) (least_body kind) then refused_elements short_element w.at
-    else if bad_token kind (take w.count w.elements) (get_or s (w.at + 2) 0) then refused_elements bad_element_token w.at
+    when leb most w.count then refused_elements too_many_elements w.at
+    else when ltb (get_or s (w.at + 1) 0) (least_body kind) then refused_elements short_element w.at
+    else when bad_token kind (take w.count w.elements) (get_or s (w.at + 2) 0) then refused_elements bad_element_token w.at
     else with_element s kind w end (subelements_of s kind w.at end)
 
 -- the element at w.at: "Element header or body passes the end" (4); "In each frame only its own element ID counts"
 unfoldable pub element_step : ℕ → List ℕ → Kind → ElementWalk → ElementWalk
 element_step most s kind w =
-    if eqb (piece_end s w.at (length s)) 0 then refused_elements element_past_end w.at
-    else if not (eqb (get_or s w.at 0) (request_id kind)) then passed w (piece_end s w.at (length s))
+    when eqb (piece_end s w.at (length s)) 0 then refused_elements element_past_end w.at
+    else when not (eqb (get_or s w.at 0) (request_id kind)) then passed w (piece_end s w.at (length s))
     else own_request_step most s kind w (piece_end s w.at (length s))
 
 abbrev pub more_elements : List ℕ → ElementWalk → Bool

@@ -1,7 +1,7 @@
 -- One event request element by itself, read as in a frame (document 02 (f): "a request element").
 -- Assumes nothing.
 use Rattle.std.specs.Prelude.{ℕ, not, List, eqb, length, get_or}
-use Rattle.laws.specs.Choice.{if◌then◌else◌}
+use Rattle.laws.specs.Choice.{when◌then◌else◌}
 use Rattle.octets.specs.declared.numbers.Kind.TheVariants.{Event}
 use Rattle.octets.specs.Numbers.{request_id}
 use Rattle.octets.specs.Refusals.{refused, no_refusal, element_past_end}
@@ -19,7 +19,7 @@ refused_one number place = record { refusal = refused number place; element = bl
 -- "4 at 0 also meets another ID or octets behind"; then 5, 6, and its subelements' 7 and 8, as in a frame
 unfoldable pub read_element : List ℕ → OneElement
 read_element s =
-    if eqb (piece_end s 0 (length s)) 0 then refused_one element_past_end 0
-    else if not (eqb (piece_end s 0 (length s)) (length s)) then refused_one element_past_end 0
-    else if not (eqb (get_or s 0 0) (request_id Event)) then refused_one element_past_end 0
+    when eqb (piece_end s 0 (length s)) 0 then refused_one element_past_end 0
+    else when not (eqb (piece_end s 0 (length s)) (length s)) then refused_one element_past_end 0
+    else when not (eqb (get_or s 0 0) (request_id Event)) then refused_one element_past_end 0
     else one_of (own_request_step 1 s Event (started no_refusal 0) (length s))

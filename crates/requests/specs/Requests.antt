@@ -1,7 +1,7 @@
 -- Document 01, "Why a call is turned away": a request frame whole, "1, 2, 3, then elements from the front, .. and 10 at the end".
 -- Assumes nothing.
 use Rattle.std.specs.Prelude.{ℕ, Bool, false, not, List, [], ◌∷◌, get_or, eqb}
-use Rattle.laws.specs.Choice.{if◌then◌else◌}
+use Rattle.laws.specs.Choice.{when◌then◌else◌}
 use Rattle.octets.specs.declared.numbers.Kind.{Kind}
 use Rattle.octets.specs.declared.numbers.Kind.TheVariants.{Event, Diagnostic}
 use Rattle.octets.specs.Refusals.{refused, no_refusal, bad_frame_length, bad_header, zero_dialog_token, element_past_end, short_element, bad_element_token, bad_subelement, repeated_subelement, too_many_elements, no_element}
@@ -27,8 +27,8 @@ lacks_element Diagnostic count = eqb count 0
 -- the walk's refusal, or 10, or the request
 unfoldable pub request_of : Kind → ℕ → ElementWalk → Request
 request_of kind dialog w =
-    if not (eqb w.refusal.number 0) then refused_request w.refusal.number w.refusal.place
-    else if lacks_element kind w.count then refused_request no_element 0
+    when not (eqb w.refusal.number 0) then refused_request w.refusal.number w.refusal.place
+    else when lacks_element kind w.count then refused_request no_element 0
     else record { refusal = no_refusal; kind = kind; dialog = dialog; count = w.count; elements = w.elements }
 
 -- the kind that a frame is read as
@@ -38,12 +38,12 @@ request_kind s = frame_kind s (request_action Diagnostic)
 -- 1 or 2 by the frame's head, or "Request dialog token 0" (3); 0: not refused
 unfoldable pub header_cause : List ℕ → Kind → ℕ
 header_cause s kind =
-    if not (eqb (frame_cause s (request_action kind)) 0) then frame_cause s (request_action kind)
-    else if eqb (get_or s 2 0) 0 then zero_dialog_token
+    when not (eqb (frame_cause s (request_action kind)) 0) then frame_cause s (request_action kind)
+    else when eqb (get_or s 2 0) 0 then zero_dialog_token
     else 0
 
 -- "1, 2, 3, then elements from the front, .. and 10 at the end", of at most so many elements
 unfoldable pub read_request : ℕ → List ℕ → Request
 read_request most s =
-    if not (eqb (header_cause s (request_kind s)) 0) then refused_request (header_cause s (request_kind s)) 0
+    when not (eqb (header_cause s (request_kind s)) 0) then refused_request (header_cause s (request_kind s)) 0
     else request_of (request_kind s) (get_or s 2 0) (walk_elements most s (request_kind s))

@@ -10,7 +10,7 @@ use lib.ListN.{length, take, drop}
 use lib.Seq.{take-length, take_at}
 use borrow.Author.Tests.{ltb-false, eqb-true, eqb-false, eq-eqb, ne_eqb}
 use native.Mathlib.Omega.{arith}
-use Rattle.laws.specs.Choice.{if◌then◌else◌}
+use Rattle.laws.specs.Choice.{when◌then◌else◌}
 use Rattle.laws.specs.Buffers.{onto}
 use Rattle.laws.proofs.Choice.{either}
 use Rattle.units.specs.Time.{elapsed_since}
@@ -44,17 +44,17 @@ good_length l =
 
 -- an identity has an octet
 pub identity_some : (s : List ℕ) → good_identity s ≡ true → 0 < length s
-unfolding good_identity good_from pass_row stands if◌then◌else◌
+unfolding good_identity good_from pass_row stands when◌then◌else◌
 identity_some [] e = let z : ◌≡◌ {A = ℕ} 0 1 = cc in absurd (omega arith)
 identity_some (x ∷ s) e = omega arith
 
 -- the identity of a station by its length
 view_none : (n : ℕ) (o : List ℕ) → n ≡ 0 → view_identity n o ≡ none
-unfolding view_identity if◌then◌else◌
+unfolding view_identity when◌then◌else◌
 view_none n o e = rw (eq-eqb n 0 e)
 
 view_some : (n : ℕ) (o : List ℕ) → (n ≡ 0 → ⊥) → view_identity n o ≡ some (take n o)
-unfolding view_identity if◌then◌else◌
+unfolding view_identity when◌then◌else◌
 view_some n o e = rw (ne_eqb n 0 e)
 
 -- a station that names the requesters of a list
@@ -63,7 +63,7 @@ unfolding view
 view-named t n o log l h few = rw (view_some n o h, named_views l few)
 
 pub view-setup : (i : List ℕ) (l : List Listed) → 0 < length i → length l ≤ requester_capacity → view (setup_station i l) ≡ new_station unset i [] l
-unfolding logged view_timer if◌then◌else◌
+unfolding logged view_timer when◌then◌else◌
 view-setup i l h few =
     view-named unset_timer (length i) _ blank_log l (λ z. omega arith) few ∙ ap (λ (o : List ℕ). new_station unset o [] l) (take_at i _ (length i) refl)
 
@@ -75,7 +75,7 @@ copied_front s o y e = e ∙ ap (λ (x : List ℕ). x ++ drop (length s) o) (tak
 pub view_ticked : (g : CodeStation) (reading : ℕ) (rs : List Requester)
     → map view_requester (take g.count rs) ≡ map (tick_requester elapsed_since (advanced_timer g.timer reading).now.0) (map view_requester (take g.count g.requesters))
     → view (ticked_station g reading rs) ≡ tick elapsed_clock reading (view g)
-unfolding view view_timer timed without_late if◌then◌else◌
+unfolding view view_timer timed without_late when◌then◌else◌
 view_ticked g reading rs e =
     ap (λ (l : List ModelRequester). record { timer = view_timer (advanced_timer g.timer reading); identity = view_identity g.length g.identity; log = logged g.log; requesters = l }) e
 
@@ -98,20 +98,20 @@ module _ (o : Outcome) where
 
 module _ (log : List Entry) (l : List Listed) (g : Station) where
   rename_bad : bad_list requester_capacity l ≡ true → result g (refused_for bad_requester_list) [] ≡ rename standard log l g
-  unfolding rename if◌then◌else◌
+  unfolding rename when◌then◌else◌
   rename_bad e = rw e
 
   rename_none : bad_list requester_capacity l ≡ false → g.identity ≡ none → result g (refused_for bad_identity) [] ≡ rename standard log l g
-  unfolding rename rename_with if◌then◌else◌
+  unfolding rename rename_with when◌then◌else◌
   rename_none e f = rw (e, f)
 
   rename_some : (i : List ℕ) → bad_list requester_capacity l ≡ false → g.identity ≡ some i → result (new_station g.timer i log l) accepted [] ≡ rename standard log l g
-  unfolding rename rename_with if◌then◌else◌
+  unfolding rename rename_with when◌then◌else◌
   rename_some i e f = rw (e, f)
 
   module _ (n : ℕ) (o : List ℕ) (is : g.identity ≡ view_identity n o) where
     rename-refused : (rename_cause n l ≡ 0 → ⊥) → result g (refused_for (rename_cause n l)) [] ≡ rename standard log l g
-    unfolding rename_cause if◌then◌else◌
+    unfolding rename_cause when◌then◌else◌
     rename-refused h = go (bad_list requester_capacity l) refl (eqb n 0) refl
       where
         go : (b : Bool) → bad_list requester_capacity l ≡ b → (z : Bool) → eqb n 0 ≡ z → result g (refused_for (rename_cause n l)) [] ≡ rename standard log l g
@@ -121,10 +121,10 @@ module _ (log : List Entry) (l : List Listed) (g : Station) where
 
 -- a list that a station with an identity takes
 rename_takes : (n : ℕ) (l : List Listed) → rename_cause n l ≡ 0 → (bad_list requester_capacity l ≡ false) × (n ≡ 0 → ⊥)
-unfolding rename_cause if◌then◌else◌
+unfolding rename_cause when◌then◌else◌
 rename_takes n l = go (bad_list requester_capacity l) refl (eqb n 0) refl
   where
-    go : (b : Bool) → bad_list requester_capacity l ≡ b → (z : Bool) → eqb n 0 ≡ z → (if b then bad_requester_list else if z then bad_identity else 0) ≡ 0 → (bad_list requester_capacity l ≡ false) × (n ≡ 0 → ⊥)
+    go : (b : Bool) → bad_list requester_capacity l ≡ b → (z : Bool) → eqb n 0 ≡ z → (when b then bad_requester_list else when z then bad_identity else 0) ≡ 0 → (bad_list requester_capacity l ≡ false) × (n ≡ 0 → ⊥)
     go true e z f h = absurd (omega arith)
     go false e true f h = absurd (omega arith)
     go false e false f h = (e, eqb-false n 0 f)
@@ -133,7 +133,7 @@ rename_takes n l = go (bad_list requester_capacity l) refl (eqb n 0) refl
 module _ (g : CodeStation) (reading : ℕ) (l : List Listed) (r : Renaming) (is : Renames g.timer g.length g.requesters g.count reading l r) (o : Outcome) (answer : view_answer o.answer ≡ answer_to (refused r.cause 0)) where
   module _ (z : r.cause ≡ 0 → ⊥) (s : o.station ≡ with_renaming g r g.log) where
     renames_late : view_outcome o [] ≡ result (tick elapsed_clock reading (view g)) (refused_for (rename_cause g.length l)) []
-    unfolding view_outcome answer_to if◌then◌else◌
+    unfolding view_outcome answer_to when◌then◌else◌
     renames_late =
         let drops = is.dropped z in
         let late : o.station ≡ ticked_station g reading r.requesters = s ∙ rw (is.timed, drops.0) in
@@ -156,7 +156,7 @@ module _ (g : CodeStation) (reading : ℕ) (l : List Listed) (r : Renaming) (is 
     renames_leaves _ = renames_all
 
     renames_taken : view_outcome o [] ≡ rename standard (logged log) l (tick elapsed_clock reading (view g))
-    unfolding view_outcome view view_timer timed without_late answer_to if◌then◌else◌
+    unfolding view_outcome view view_timer timed without_late answer_to when◌then◌else◌
     renames_taken =
         let takes = rename_takes g.length l (sym is.caused ∙ e) in
         let named = view-named (advanced_timer g.timer reading) g.length g.identity log l takes.1 (good_length l takes.0) in
@@ -166,34 +166,34 @@ module _ (g : CodeStation) (reading : ℕ) (l : List Listed) (r : Renaming) (is 
         ∙ rename_some (logged log) l (tick elapsed_clock reading (view g)) _ takes.0 (view_some g.length g.identity takes.1)
 
   -- refused, with the log that it had, or taken with a log, by the cause
-  pub renames : (log : Log) → o.station ≡ with_renaming g r (if eqb r.cause 0 then log else g.log)
+  pub renames : (log : Log) → o.station ≡ with_renaming g r (when eqb r.cause 0 then log else g.log)
       → (view_outcome o [] ≡ rename standard (logged log) l (tick elapsed_clock reading (view g))) × Leaves o (renamed_station g reading log l)
-  unfolding if◌then◌else◌
+  unfolding when◌then◌else◌
   renames log = go (eqb r.cause 0) refl
     where
-      go : (b : Bool) → eqb r.cause 0 ≡ b → o.station ≡ with_renaming g r (if b then log else g.log)
+      go : (b : Bool) → eqb r.cause 0 ≡ b → o.station ≡ with_renaming g r (when b then log else g.log)
           → (view_outcome o [] ≡ rename standard (logged log) l (tick elapsed_clock reading (view g))) × Leaves o (renamed_station g reading log l)
       go true h s = let e = eqb-true r.cause 0 h in (renames_taken e log s, renames_leaves e log s)
       go false h s = let z = eqb-false r.cause 0 h in (renames_refused z s (logged log), renames_nothing z s (renamed_station g reading log l))
 
   -- with the log that it had in any case
   pub roams : o.station ≡ with_renaming g r g.log → (view_outcome o [] ≡ rename standard (logged g.log) l (tick elapsed_clock reading (view g))) × Leaves o (renamed_station g reading g.log l)
-  unfolding if◌then◌else◌
+  unfolding when◌then◌else◌
   roams s = renames g.log (s ∙ ap (with_renaming g r) (sym (same (eqb r.cause 0))))
     where
-      same : (b : Bool) → (if b then g.log else g.log) ≡ g.log
+      same : (b : Bool) → (when b then g.log else g.log) ≡ g.log
       same true = refl
       same false = refl
 
 module _ (i : List ℕ) (l : List Listed) where
   pub setup-bad_list : bad_list requester_capacity l ≡ true → result nobody (refused_for bad_requester_list) [] ≡ setup standard i l
-  unfolding setup if◌then◌else◌
+  unfolding setup when◌then◌else◌
   setup-bad_list e = rw e
 
   pub setup-bad_identity : bad_list requester_capacity l ≡ false → good_identity i ≡ false → result nobody (refused_for bad_identity) [] ≡ setup standard i l
-  unfolding setup if◌then◌else◌
+  unfolding setup when◌then◌else◌
   setup-bad_identity e f = rw (e, f)
 
   pub setup-good : bad_list requester_capacity l ≡ false → good_identity i ≡ true → result (new_station unset i [] l) accepted [] ≡ setup standard i l
-  unfolding setup if◌then◌else◌
+  unfolding setup when◌then◌else◌
   setup-good e f = rw (e, f)

@@ -3,7 +3,7 @@
 -- Assumes nothing.
 use Rattle.std.specs.Prelude.{ℕ, List, map, take}
 use Rattle.std.proofs.Math.Option.{none, some}
-use Rattle.laws.specs.Choice.{if◌then◌else◌}
+use Rattle.laws.specs.Choice.{when◌then◌else◌}
 use Rattle.events.specs.Log.{logged}
 use Rattle.model.specs.Clocks.{Timer}
 use Rattle.model.specs.Model.{Station, Result}
@@ -15,7 +15,7 @@ use Rattle.station.specs.declared.Changed.{Changed}
 
 -- the timer of the code: its reading is that of a call where one was made
 unfoldable pub view_timer : CodeTimer → Timer
-view_timer t = record { last = if t.started then some t.last.0 else none; now = t.now.0 }
+view_timer t = record { last = when t.started then some t.last.0 else none; now = t.now.0 }
 
 unfoldable pub view : CodeStation → Station
 view g =

@@ -8,7 +8,7 @@ mod frames;
 mod logging;
 mod moves;
 mod outcomes;
-mod reports;
+mod reporting;
 mod requester_lists;
 mod setup;
 mod timers;

@@ -10,17 +10,17 @@ use lib.Dec.{leb, ltb}
 use lib.ListN.{length, get_or, take, drop, get_or-append, get_or-eq_default}
 use lib.Seq.{get_or-take, length-take-le}
 use borrow.Author.Tests.{ltb-true, leb-true, leb-false}
-use Rattle.laws.specs.Choice.{if◌then◌else◌}
+use Rattle.laws.specs.Choice.{when◌then◌else◌}
 use Rattle.laws.proofs.Parts.{stands_at}
 use Rattle.subelements.specs.Subelements.{body_octet, body_at}
 
 -- the first n octets of x stand at a position: they are the body there
 module _ (s : List ℕ) (at n : ℕ) (x r : List ℕ) (h : drop at s ≡ take n x ++ r) (enough : n ≤ length x) where
   octet_stands : (k : ℕ) → body_octet s at n k ≡ body_octet x 0 n k
-  unfolding body_octet if◌then◌else◌
+  unfolding body_octet when◌then◌else◌
   octet_stands k = go (ltb k n) refl
     where
-      go : (t : Bool) → ltb k n ≡ t → (if t then get_or s (at + k) 0 else 0) ≡ (if t then get_or x (0 + k) 0 else 0)
+      go : (t : Bool) → ltb k n ≡ t → (when t then get_or s (at + k) 0 else 0) ≡ (when t then get_or x (0 + k) 0 else 0)
       go true q =
           let lt : k < n = ltb-true k n q in
           rw (zero-add k)

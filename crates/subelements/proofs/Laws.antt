@@ -7,7 +7,7 @@ use mathlib.Core.List.{List}
 use lib.ListN.{length, get_or, set, length-set}
 use borrow.Author.Tests.{eq-eqb, ne_eqb}
 use native.Mathlib.Omega.{arith}
-use Rattle.laws.specs.Choice.{if◌then◌else◌}
+use Rattle.laws.specs.Choice.{when◌then◌else◌}
 use Rattle.laws.proofs.Walk.{Rest, start, last, again, done, go_on, stop_refused, stop_end}
 use Rattle.octets.specs.Elements.{piece_end}
 use Rattle.octets.specs.Refusals.{no_refusal, bad_subelement, repeated_subelement}
@@ -40,7 +40,7 @@ module _ {s : List ℕ} {ty from end : ℕ} {w : Subelements} (i : Walking s ty 
     refuses n p q f = q ∙ last i.rest (go_on _ _ _ unrefused h) (omega arith) f (stop_refused n 0 end (λ z. omega arith))
 
     pub refused_edge : {r : Subelements} → next ≡ 0 → r ≡ refused_walk bad_subelement w.at → r ≡ walk s ty from end
-    unfolding subelement_step if◌then◌else◌
+    unfolding subelement_step when◌then◌else◌
     refused_edge z q = refuses 7 (omega arith) q (rw (← e, eq-eqb next 0 z))
 
     module _ (z : next ≡ 0 → ⊥) where
@@ -64,7 +64,7 @@ module _ {s : List ℕ} {ty from end : ℕ} {w : Subelements} (i : Walking s ty 
         as_wanted = sym (g ∙ ap₂ (length_of ty) d f)
 
         pub passed_over : want ≡ 0 → Walking s ty from end (record { refusal = w.refusal; at = next; count = w.count + 1; filter = w.filter })
-        unfolding subelement_step whole_step if◌then◌else◌
+        unfolding subelement_step whole_step when◌then◌else◌
         passed_over k = goes w.filter i.five (rw (← e, ne_eqb next 0 z, as_wanted, eq-eqb want 0 k))
 
         module _ (k : want ≡ 0 → ⊥) where
@@ -73,17 +73,17 @@ module _ {s : List ℕ} {ty from end : ℕ} {w : Subelements} (i : Walking s ty 
 
           module _ {n : ℕ} (m : n ≡ get_or s (w.at + 1) 0) where
             pub refused-length : {r : Subelements} → (n ≡ want → ⊥) → r ≡ refused_walk bad_subelement w.at → r ≡ walk s ty from end
-            unfolding subelement_step whole_step if◌then◌else◌
+            unfolding subelement_step whole_step when◌then◌else◌
             refused-length l q = refuses 7 (omega arith) q (rw (← e, ne_eqb next 0 z, as_wanted, ne_eqb want 0 k, ← m, ne_eqb n want l))
 
             module _ (l : n ≡ want) where
               pub refused_repeat : {r : Subelements} → (get_or w.filter id past_filter).present ≡ true → r ≡ refused_walk repeated_subelement w.at → r ≡ walk s ty from end
-              unfolding subelement_step whole_step if◌then◌else◌
+              unfolding subelement_step whole_step when◌then◌else◌
               refused_repeat b q = refuses 8 (omega arith) q (rw (← e, ne_eqb next 0 z, as_wanted, ne_eqb want 0 k, ← m, eq-eqb n want l, ← d, b))
 
               pub held : {o : List ℕ} → (get_or w.filter id past_filter).present ≡ false → o ≡ body_at s (w.at + 2) n
                   → Walking s ty from end (record { refusal = w.refusal; at = next; count = w.count + 1; filter = set w.filter id (record { present = true; octets = o }) })
-              unfolding subelement_step whole_step if◌then◌else◌
+              unfolding subelement_step whole_step when◌then◌else◌
               held b q =
                   rw q (goes (set w.filter id _) (length-set w.filter id _ ∙ i.five) (rw (← e, ne_eqb next 0 z, as_wanted, ne_eqb want 0 k, ← m, eq-eqb n want l, ← d, b)))
 

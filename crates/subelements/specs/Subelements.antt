@@ -1,7 +1,7 @@
 -- Document 01, "Frames and elements": the subelements of one element; causes 7 and 8 of the table.
 -- Assumes nothing.
 use Rattle.std.specs.Prelude.{ℕ, ◌+◌, Bool, true, false, not, ◌&&◌, List, [], ◌∷◌, get_or, set, ltb, eqb}
-use Rattle.laws.specs.Choice.{if◌then◌else◌}
+use Rattle.laws.specs.Choice.{when◌then◌else◌}
 use Rattle.laws.specs.Walk.{repeat_while}
 use Rattle.octets.specs.declared.refusals.Refusal.{Refusal}
 use Rattle.octets.specs.Refusals.{refused, no_refusal, bad_subelement, repeated_subelement}
@@ -36,11 +36,11 @@ row_of ty id = get_or (get_or lengths ty []) id reserved
 
 -- by the first octet of the body
 unfoldable pub length_of : ℕ → ℕ → ℕ → ℕ
-length_of ty id first = if eqb first 254 then (row_of ty id).expanded else (row_of ty id).plain
+length_of ty id first = when eqb first 254 then (row_of ty id).expanded else (row_of ty id).plain
 
 -- octet k of a body of n octets that starts at a position; 0 past its end
 unfoldable pub body_octet : List ℕ → ℕ → ℕ → ℕ → ℕ
-body_octet s at n k = if ltb k n then get_or s (at + k) 0 else 0
+body_octet s at n k = when ltb k n then get_or s (at + k) 0 else 0
 
 -- the body, in eight places
 unfoldable pub body_at : List ℕ → ℕ → ℕ → List ℕ
@@ -82,15 +82,15 @@ whole_step s ty w next =
     let id = get_or s w.at 0 in
     let n = get_or s (w.at + 1) 0 in
     let want = length_of ty id (get_or s (w.at + 2) 0) in
-    if eqb want 0 then past w next w.filter
-    else if not (eqb n want) then refused_walk bad_subelement w.at
-    else if (get_or w.filter id past_filter).present then refused_walk repeated_subelement w.at
+    when eqb want 0 then past w next w.filter
+    else when not (eqb n want) then refused_walk bad_subelement w.at
+    else when (get_or w.filter id past_filter).present then refused_walk repeated_subelement w.at
     else past w next (set w.filter id (record { present = true; octets = body_at s (w.at + 2) n }))
 
 -- the one at w.at: "Subelement passes the end" (7)
 unfoldable pub subelement_step : List ℕ → ℕ → ℕ → Subelements → Subelements
 subelement_step s ty end w =
-    if eqb (piece_end s w.at end) 0 then refused_walk bad_subelement w.at
+    when eqb (piece_end s w.at end) 0 then refused_walk bad_subelement w.at
     else whole_step s ty w (piece_end s w.at end)
 
 abbrev pub more_subelements : ℕ → Subelements → Bool

@@ -10,7 +10,7 @@ use lib.Dec.{eqb, leb}
 use lib.ListN.{length, drop, set, length-append, length-set}
 use lib.Seq.{drop-cons, get_or-set_same, drop-set-lt}
 use borrow.Author.Tests.{eq-eqb, le-leb}
-use Rattle.laws.specs.Choice.{if◌then◌else◌}
+use Rattle.laws.specs.Choice.{when◌then◌else◌}
 use Rattle.laws.specs.Buffers.{wrote, put_at}
 use Rattle.laws.proofs.Choice.{either}
 use Rattle.texts.specs.Text.{digit, spell, decimal, named}
@@ -27,11 +27,11 @@ module _ (i least n : ℕ) (text : List ℕ) (p : 0 < i) where
   j = omega arith
 
   pub spell-first : (eqb (n / 10) 0 && leb least 1) ≡ true → spell i least n text ≡ digit (n % 10) ∷ text
-  unfolding spell if◌then◌else◌
+  unfolding spell when◌then◌else◌
   spell-first e = rw (j, e)
 
   pub spell_next : (eqb (n / 10) 0 && leb least 1) ≡ false → spell i least n text ≡ spell (i - 1) (least - 1) (n / 10) (digit (n % 10) ∷ text)
-  unfolding spell if◌then◌else◌
+  unfolding spell when◌then◌else◌
   spell_next e = ap (λ (k : ℕ). spell k least n text) j ∙ rw e
 
 -- the invariant of the loop that spells `whole` from the end of an array of 20: i places are left, for the digits of rest

@@ -3,7 +3,7 @@
 use Rattle.std.specs.Prelude.{ℕ, zero, suc, ◌+◌, ◌-◌, ◌/◌, ◌%◌, ◌≤◌, ◌≡◌, ◌&&◌, List, [], ◌∷◌, ◌++◌, leb, ltb, eqb, length, take}
 use Prim.Native.Char.{code}
 use Prim.Native.String.{String, [] as none, ◌∷◌ as ◌then◌}
-use Rattle.laws.specs.Choice.{if◌then◌else◌}
+use Rattle.laws.specs.Choice.{when◌then◌else◌}
 use Rattle.laws.specs.Buffers.{onto, pieces, WrittenBuffer, wrote, put_at}
 use Rattle.octets.specs.declared.refusals.Refusal.{Refusal}
 
@@ -16,13 +16,13 @@ text (c then rest) = code c ∷ text rest
 
 -- the character of a digit below 16: `0` to `9`, then `a` to `f`
 unfoldable pub digit : ℕ → ℕ
-digit x = if ltb x 10 then 48 + x else 87 + x
+digit x = when ltb x 10 then 48 + x else 87 + x
 
 -- the digits of n in front of a text, at least so many, at most as many as the fuel says
 unfoldable pub spell : ℕ → ℕ → ℕ → List ℕ → List ℕ
 spell zero least n rest = rest
 spell (suc k) least n rest =
-    if eqb (n / 10) 0 && leb least 1 then digit (n % 10) ∷ rest
+    when eqb (n / 10) 0 && leb least 1 then digit (n % 10) ∷ rest
     else spell k (least - 1) (n / 10) (digit (n % 10) ∷ rest)
 
 -- a number below 2 ^ 64 has at most 20 digits

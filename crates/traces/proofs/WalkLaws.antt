@@ -6,7 +6,7 @@ use mathlib.Core.List.{List}
 use lib.ListN.{length}
 use native.Mathlib.Omega.{arith}
 use borrow.Author.Tests.{ne_eqb, lt-ltb, ltb-false}
-use Rattle.laws.specs.Choice.{if◌then◌else◌}
+use Rattle.laws.specs.Choice.{when◌then◌else◌}
 use Rattle.laws.proofs.Choice.{either}
 use Rattle.octets.specs.declared.numbers.Kind.{Kind}
 use Rattle.traces.specs.declared.elements.Conditions.{Conditions}
@@ -16,7 +16,7 @@ use Rattle.traces.specs.Elements.{condition_end, with_condition, more_conditions
 
 -- what would end past the end of the input is refused
 pub behind-past : (s : List ℕ) (at n : ℕ) → length s < at + n → place_behind_record s at n ≡ 0
-unfolding place_behind_record if◌then◌else◌
+unfolding place_behind_record when◌then◌else◌
 behind-past s zero n h = refl
 behind-past s (suc at) n h = rw (ne_eqb (suc at) 0 (λ (e : suc at ≡ 0). omega arith), lt-ltb (length s) (suc at + n) h)
 

@@ -2,7 +2,7 @@
 -- with ID (1, .. rising), length (1, ..), octets".
 -- Assumes nothing.
 use Rattle.std.specs.Prelude.{ℕ, zero, suc, ◌+◌, ◌%◌, Bool, true, false, not, List, get_or, set, eqb, ltb}
-use Rattle.laws.specs.Choice.{if◌then◌else◌}
+use Rattle.laws.specs.Choice.{when◌then◌else◌}
 use Rattle.octets.specs.declared.numbers.Kind.{Kind}
 use Rattle.octets.specs.declared.numbers.Kind.TheVariants.{Event, Diagnostic}
 use Rattle.octets.specs.Fields.{pair_at}
@@ -19,7 +19,7 @@ use Rattle.traces.specs.Places.{place_behind_record}
 
 -- the event type whose table they follow: "every other element keeps document 01's"
 unfoldable pub condition_table : Kind → ℕ → ℕ
-condition_table Event ty = if ltb ty tables then ty else 0
+condition_table Event ty = when ltb ty tables then ty else 0
 condition_table Diagnostic ty = 0
 
 -- a condition's length, "the EAP method always as eight octets"; 0: no condition has the ID
@@ -30,9 +30,9 @@ traced_length ty id = (row_of ty id).expanded
 unfoldable pub condition_end : List ℕ → ℕ → ℕ → ℕ → ℕ
 condition_end s ty at least =
     let n = traced_length ty (get_or s at 0) in
-    if ltb (get_or s at 0) least then 0
-    else if eqb n 0 then 0
-    else if not (eqb (get_or s (at + 1) 0) n) then 0
+    when ltb (get_or s at 0) least then 0
+    else when eqb n 0 then 0
+    else when not (eqb (get_or s (at + 1) 0) n) then 0
     else place_behind_record s at (2 + n)
 
 unfoldable pub traced_condition : List ℕ → ℕ → ℕ → Condition
@@ -88,9 +88,9 @@ unfoldable pub traced_element_at : List ℕ → Kind → ℕ → Recorded
 traced_element_at s kind at =
     let from = place_behind_record s at 5 in
     let conditions = conditions_at s (condition_table kind (get_or s (at + 1) 0)) (get_or s (at + 4) 0) from in
-    if eqb from 0 then refused_element
-    else if bad_value kind (pair_at s (at + 2)) then refused_element
-    else if eqb conditions.end 0 then refused_element
+    when eqb from 0 then refused_element
+    else when bad_value kind (pair_at s (at + 2)) then refused_element
+    else when eqb conditions.end 0 then refused_element
     else record { end = conditions.end; element = traced_element s kind at conditions.filter }
 
 -- one more, kept where it is one of the first eight

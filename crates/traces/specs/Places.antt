@@ -1,14 +1,14 @@
 -- Where the parts of a record end. 0 means refused, and what stands behind a refused part is refused.
 -- Assumes nothing.
 use Rattle.std.specs.Prelude.{ℕ, ◌+◌, ◌*◌, Bool, List, length, get_or, eqb, ltb}
-use Rattle.laws.specs.Choice.{if◌then◌else◌}
+use Rattle.laws.specs.Choice.{when◌then◌else◌}
 use Rattle.octets.specs.Fields.{pair_at}
 
 -- so many octets from a position on; they do not pass the end of the input
 unfoldable pub place_behind_record : List ℕ → ℕ → ℕ → ℕ
 place_behind_record s at n =
-    if eqb at 0 then 0
-    else if ltb (length s) (at + n) then 0
+    when eqb at 0 then 0
+    else when ltb (length s) (at + n) then 0
     else at + n
 
 -- "no length in them over 4,096"
@@ -20,7 +20,7 @@ bad_length s at = ltb longest_length (pair_at s at)
 
 -- "length (2), octets"
 unfoldable pub octets_end : List ℕ → ℕ → ℕ
-octets_end s at = if bad_length s at then 0 else place_behind_record s (place_behind_record s at 2) (pair_at s at)
+octets_end s at = when bad_length s at then 0 else place_behind_record s (place_behind_record s at 2) (pair_at s at)
 
 -- "number of addresses (1), addresses (6 each)", and "each address is followed by its form (1)"
 unfoldable pub list_end : List ℕ → ℕ → ℕ

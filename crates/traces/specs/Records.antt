@@ -1,7 +1,7 @@
 -- Records: where each ends, and its fields. The number of a record stands first; its fields follow, least octet first.
 -- Assumes nothing.
 use Rattle.std.specs.Prelude.{ℕ, zero, suc, ◌+◌, ◌*◌, Bool, not, ◌||◌, List, [], ◌∷◌, length, get_or, eqb, ltb, leb}
-use Rattle.laws.specs.Choice.{if◌then◌else◌}
+use Rattle.laws.specs.Choice.{when◌then◌else◌}
 use Rattle.octets.specs.Numbers.{kind_of}
 use Rattle.octets.specs.Fields.{pair_at, octets_at}
 use Rattle.octets.specs.Addresses.{address_at}
@@ -27,8 +27,8 @@ use Rattle.traces.specs.Elements.{elements_at}
 -- "`04` report call: reading (4), console (6), kind (1: 0 event, 1 diagnostic), buffer length (2), the octet that fills the buffer (1)"
 unfoldable pub report_call_end : List ℕ → ℕ → ℕ
 report_call_end s at =
-    if ltb 1 (get_or s (at + 10) 0) then 0
-    else if bad_length s (at + 11) then 0
+    when ltb 1 (get_or s (at + 10) 0) then 0
+    else when bad_length s (at + 11) then 0
     else place_behind_record s at 14
 
 -- "action (1: 0 or 2)"
@@ -38,42 +38,42 @@ good_action action = eqb action 0 || eqb action 2
 -- "`10` request writer: buffer length (2), filling octet (1), action, dialog token (1), number of elements (1)", and they
 unfoldable pub writer_call_end : List ℕ → ℕ → ℕ
 writer_call_end s at =
-    if bad_length s at then 0
-    else if not (good_action (get_or s (at + 3) 0)) then 0
+    when bad_length s at then 0
+    else when not (good_action (get_or s (at + 3) 0)) then 0
     else (elements_at s (kind_of (get_or s (at + 3) 0)) (get_or s (at + 5) 0) (place_behind_record s at 6)).end
 
 -- the fields of a record of a number, from a position on
 unfoldable pub fields_end : List ℕ → ℕ → ℕ → ℕ
 fields_end s number at =
     -- "`00` setup: identity length (2), identity, number of addresses (1), addresses (6 each)", and their forms
-    if eqb number 0 then list_end s (octets_end s at)
+    when eqb number 0 then list_end s (octets_end s at)
     -- "`01` clock: reading (4)"
-    else if eqb number 1 then place_behind_record s at 4
+    else when eqb number 1 then place_behind_record s at 4
     -- "`02` logging: reading (4), time (9), source (6), target (6), reason (1), result (2), .. (1 each), departure (4)"; "in `02`, `07` and
     -- `08` the time is followed by TSF (8), UTC offset (10) and event time error (5)"
-    else if eqb number 2 then place_behind_record s at 59
+    else when eqb number 2 then place_behind_record s at 59
     -- "`03` frame call: reading (4), destination (6), source (6), length (2), octets"
-    else if eqb number 3 then octets_end s (place_behind_record s at 16)
-    else if eqb number 4 then report_call_end s at
+    else when eqb number 3 then octets_end s (place_behind_record s at 16)
+    else when eqb number 4 then report_call_end s at
     -- "`05` move, `06` network change: reading (4), number of addresses (1), addresses"
-    else if eqb number 5 then list_end s (place_behind_record s at 4)
-    else if eqb number 6 then list_end s (place_behind_record s at 4)
+    else when eqb number 5 then list_end s (place_behind_record s at 4)
+    else when eqb number 6 then list_end s (place_behind_record s at 4)
     -- "`07` logs an RSNA event: reading (4), time (9), target (6), authentication type (4), EAP method (8), result (1), RSN element's length
     -- (2), RSN element"
-    else if eqb number 7 then octets_end s (place_behind_record s at 55)
+    else when eqb number 7 then octets_end s (place_behind_record s at 55)
     -- "`08` logs a peer link event: reading (4), time (9), peer address (6), regulatory class (1), channel (1), transmit power (1), connection
     -- time (3), peer status (1)"
-    else if eqb number 8 then place_behind_record s at 49
-    else if eqb number 16 then writer_call_end s at
+    else when eqb number 8 then place_behind_record s at 49
+    else when eqb number 16 then writer_call_end s at
     -- "`11` report reader: destination (6), length (2), octets", and "begin with the form (1), then the destination"
-    else if eqb number 17 then octets_end s (place_behind_record s at 7)
+    else when eqb number 17 then octets_end s (place_behind_record s at 7)
     -- "`12` explains: element's length (2), element, count (2), position (2)"
-    else if eqb number 18 then place_behind_record s (octets_end s at) 4
+    else when eqb number 18 then place_behind_record s (octets_end s at) 4
     else 0
 
 -- "A record that is cut, unknown, or has a field out of the range": 0
 unfoldable pub record_end : List ℕ → ℕ → ℕ
-record_end s at = if leb (length s) at then 0 else fields_end s (get_or s at 0) (at + 1)
+record_end s at = when leb (length s) at then 0 else fields_end s (get_or s at 0) (at + 1)
 
 -- it ends behind its start
 abbrev pub whole_record : List ℕ → ℕ → Bool
@@ -83,7 +83,7 @@ whole_record s at = ltb at (record_end s at)
 
 -- where they stand: behind the record's number; past the end of the input, at that end
 unfoldable pub fields_of : List ℕ → ℕ → ℕ
-fields_of s at = if leb (length s) at then length s else at + 1
+fields_of s at = when leb (length s) at then length s else at + 1
 
 unfoldable pub milliseconds_at : List ℕ → ℕ → Milliseconds
 milliseconds_at s at = record { 0 = pair_at s at + 65536 * pair_at s (at + 2) }

@@ -2,20 +2,20 @@
 -- Assumes nothing.
 use native.Mathlib.Omega.{arith}
 use borrow.Author.Tests.{eq-eqb, ne_eqb}
-use Rattle.laws.specs.Choice.{if◌then◌else◌}
+use Rattle.laws.specs.Choice.{when◌then◌else◌}
 use Rattle.texts.proofs.PutLaws.{at_most, nothing}
 use Rattle.report_listing.specs.Listing.{event_tail}
 use Rattle.report_listing.specs.Internal.{unread_most}
 use Rattle.report_listing.proofs.put_event_tail.Goals as goal
 
 pub returns-then-e : goal.returns-then-e
-unfolding event_tail if◌then◌else◌
+unfolding event_tail when◌then◌else◌
 returns-then-e c = rw c.if-e.true c.put_event.ensures
 
 pub returns-then-e-eq-SUCCESSFUL : goal.returns-then-e-eq-SUCCESSFUL
-unfolding event_tail if◌then◌else◌
+unfolding event_tail when◌then◌else◌
 returns-then-e-eq-SUCCESSFUL c = rw (c.if-e.false, eq-eqb _ _ c.if-e-eq-SUCCESSFUL.true) c.put_unread.ensures
 
 pub returns : goal.returns
-unfolding event_tail if◌then◌else◌
+unfolding event_tail when◌then◌else◌
 returns c = rw (c.if-e.false, ne_eqb _ _ c.if-e-eq-SUCCESSFUL.false) (at_most unread_most (omega arith) (nothing _ _))

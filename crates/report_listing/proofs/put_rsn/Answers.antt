@@ -4,7 +4,7 @@ use mathlib.Core.Path.{◌≡◌}
 use native.Mathlib.Omega.{arith}
 use lib.ListN.{length, length-take}
 use borrow.Author.Tests.{eq-eqb, ne_eqb}
-use Rattle.laws.specs.Choice.{if◌then◌else◌}
+use Rattle.laws.specs.Choice.{when◌then◌else◌}
 use Rattle.laws.proofs.Arrays.{take_within}
 use Rattle.events.specs.RsnaEvents.{rsn_length}
 use Rattle.texts.proofs.PutLaws.{at_most, nothing}
@@ -13,11 +13,11 @@ use borrow.Author.Rules.{rules}
 use Rattle.report_listing.proofs.put_rsn.Goals as goal
 
 pub returns-then-size-eq0 : goal.returns-then-size-eq0
-unfolding rsn_text if◌then◌else◌
+unfolding rsn_text when◌then◌else◌
 returns-then-size-eq0 c = rw (eq-eqb _ 0 c.if-size-eq0.true) (at_most 49 (omega arith) (nothing _ _))
 
 pub returns : goal.returns
-unfolding rsn_text if◌then◌else◌
+unfolding rsn_text when◌then◌else◌
 returns c = let a = c.args in
     let l : length a.rsn ≡ rsn_length = search rules in
     let n = c.least-n.result in

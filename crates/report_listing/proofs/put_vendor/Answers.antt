@@ -5,18 +5,18 @@ use native.Mathlib.Omega.{arith}
 use lib.ListN.{length, drop, length-take, length-drop}
 use lib.Seq.{take_all}
 use borrow.Author.Tests.{eq-eqb, ne_eqb}
-use Rattle.laws.specs.Choice.{if◌then◌else◌}
+use Rattle.laws.specs.Choice.{when◌then◌else◌}
 use Rattle.texts.proofs.PutLaws.{at_most, nothing, both}
 use Rattle.report_listing.specs.Listing.{vendor_text}
 use borrow.Author.Rules.{rules}
 use Rattle.report_listing.proofs.put_vendor.Goals as goal
 
 pub returns-then-method : goal.returns-then-method
-unfolding vendor_text if◌then◌else◌
+unfolding vendor_text when◌then◌else◌
 returns-then-method c = rw (ne_eqb _ 254 c.if-method.true) (at_most 42 (omega arith) (nothing _ _))
 
 pub returns : goal.returns
-unfolding vendor_text if◌then◌else◌
+unfolding vendor_text when◌then◌else◌
 returns c = let m = c.args.method in
     let l : length m ≡ 8 = search rules in
     let d₁ = length-drop 1 m in

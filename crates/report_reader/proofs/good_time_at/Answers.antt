@@ -4,17 +4,17 @@ use mathlib.Core.Path.{◌∙◌}
 use Prim.Native.Nat.{◌+◌, ◌-◌}
 use native.Mathlib.Omega.{arith}
 use borrow.Author.Tests.{ne_eqb}
-use Rattle.laws.specs.Choice.{if◌then◌else◌}
+use Rattle.laws.specs.Choice.{when◌then◌else◌}
 use Rattle.report_reader.specs.Reader.{good_time_at}
 use Rattle.report_reader.proofs.Laws.{time_part}
 use Rattle.report_reader.proofs.good_time_at.Goals as goal
 
 pub returns-then-form-eq-DRAFT : goal.returns-then-form-eq-DRAFT
-unfolding good_time_at if◌then◌else◌
+unfolding good_time_at when◌then◌else◌
 returns-then-form-eq-DRAFT c = let a = c.args in
     let t = c.time_at.ensures ∙ time_part a.s.now a.at (a.at + 9 - a.at) (omega arith) in
     rw (c.if-form-eq-DRAFT.true, ← t) c.good_time.ensures
 
 pub returns : goal.returns
-unfolding good_time_at if◌then◌else◌
+unfolding good_time_at when◌then◌else◌
 returns c = rw (ne_eqb _ _ c.if-form-eq-DRAFT.false)

@@ -4,7 +4,7 @@ use native.Mathlib.Omega.{arith}
 use Prim.Native.Nat.{◌+◌}
 use lib.ListN.{get_or}
 use borrow.Author.Tests.{eq-eqb, ne_eqb, lt-ltb, le-ltb}
-use Rattle.laws.specs.Choice.{if◌then◌else◌}
+use Rattle.laws.specs.Choice.{when◌then◌else◌}
 use Rattle.octets.specs.declared.numbers.Kind.TheVariants.{Event}
 use Rattle.octets.specs.Refusals.{bad_report_body}
 use Rattle.report_reader.specs.Reader.{bare_step, event_step}
@@ -18,16 +18,16 @@ returns-then-n-eq3 c = let a = c.args in
     (plain_outline a.form a.s.now a.at a.n (omega (arith, pre.1, pre.2)) pre.0 (c.plain.ensures a.s.now a.at a.n pre.1))
 
 pub returns-then-s-at-ne-SUCCESSFUL : goal.returns-then-s-at-ne-SUCCESSFUL
-unfolding event_step bare_step if◌then◌else◌
+unfolding event_step bare_step when◌then◌else◌
 returns-then-s-at-ne-SUCCESSFUL c = let a = c.args in
     rw (ne_eqb _ 0 c.if-s-at-ne-SUCCESSFUL.true, ne_eqb _ 3 c.if-n-eq3.false) (refused_outline a.form a.s.now Event a.at bad_report_body a.at c.refused.ensures)
 
 pub returns-in-0-to-2 : goal.returns-in-0-to-2
-unfolding event_step if◌then◌else◌
+unfolding event_step when◌then◌else◌
 returns-in-0-to-2 c = rw (eq-eqb _ 0 c.if-s-at-ne-SUCCESSFUL.false, lt-ltb (get_or c.args.s.now (c.args.at + 3) 0) 3 (omega arith)) c.outline_typed.ensures
 
 pub returns-in-3-to-255 : goal.returns-in-3-to-255
-unfolding event_step if◌then◌else◌
+unfolding event_step when◌then◌else◌
 returns-in-3-to-255 c = let a = c.args in
     let pre = c.requires in
     rw (eq-eqb _ 0 c.if-s-at-ne-SUCCESSFUL.false, le-ltb (get_or a.s.now (a.at + 3) 0) 3 (omega arith))

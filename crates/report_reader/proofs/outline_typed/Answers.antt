@@ -3,7 +3,7 @@
 use mathlib.Core.Path.{sym, ◌∙◌}
 use native.Mathlib.Omega.{arith}
 use borrow.Author.Tests.{ne_eqb, not-false}
-use Rattle.laws.specs.Choice.{if◌then◌else◌}
+use Rattle.laws.specs.Choice.{when◌then◌else◌}
 use Rattle.octets.specs.declared.numbers.Kind.TheVariants.{Event}
 use Rattle.octets.specs.Refusals.{bad_report_body}
 use Rattle.report_reader.specs.Reader.{typed_step}
@@ -11,12 +11,12 @@ use Rattle.report_reader.proofs.Laws.{event_least, refused_outline, logged_outli
 use Rattle.report_reader.proofs.outline_typed.Goals as goal
 
 pub returns-then-not-is_event_length : goal.returns-then-not-is_event_length
-unfolding typed_step if◌then◌else◌
+unfolding typed_step when◌then◌else◌
 returns-then-not-is_event_length c = let a = c.args in
     rw (ne_eqb _ 3 c.requires.0, ← c.is_event_length.ensures, c.if-not-is_event_length.true-raw) (refused_outline a.form a.s.now Event a.at bad_report_body a.at c.refused.ensures)
 
 pub returns : goal.returns
-unfolding typed_step if◌then◌else◌
+unfolding typed_step when◌then◌else◌
 returns c = let a = c.args in
     let pre = c.requires in
     let least = event_least a.form a.s.now a.at a.n _ (sym c.is_event_length.ensures ∙ not-false _ c.if-not-is_event_length.false-raw) in

@@ -1,13 +1,13 @@
 -- `reports::put_time` meets its contract.
 -- Assumes nothing.
-use Rattle.laws.specs.Choice.{if◌then◌else◌}
+use Rattle.laws.specs.Choice.{when◌then◌else◌}
 use borrow.Author.Tests.{ne_eqb}
 use Rattle.reports.proofs.put_time.Goals as goal
 
 pub returns-then-form-eq-DRAFT : goal.returns-then-form-eq-DRAFT
-unfolding if◌then◌else◌
+unfolding when◌then◌else◌
 returns-then-form-eq-DRAFT c = rw c.if-form-eq-DRAFT.true c.put.ensures
 
 pub returns : goal.returns
-unfolding if◌then◌else◌
+unfolding when◌then◌else◌
 returns c = rw (ne_eqb _ _ c.if-form-eq-DRAFT.false) c.put-2.ensures

@@ -1,13 +1,13 @@
 -- `octets::numbers::kind_of` meets its contract.
 -- Assumes nothing.
 use borrow.Author.Tests.{ne_eqb}
-use Rattle.laws.specs.Choice.{if◌then◌else◌}
+use Rattle.laws.specs.Choice.{when◌then◌else◌}
 use Rattle.octets.proofs.numbers.kind_of.Goals as goal
 
 pub returns-in-0 : goal.returns-in-0
-unfolding if◌then◌else◌
+unfolding when◌then◌else◌
 returns-in-0 c = rw c.in-0.is
 
 pub returns-in-1-to-255 : goal.returns-in-1-to-255
-unfolding if◌then◌else◌
+unfolding when◌then◌else◌
 returns-in-1-to-255 c = rw (ne_eqb _ 0 c.in-1-to-255.in-1-to-255-own.rest.1)

@@ -1,17 +1,17 @@
 -- `octets::good_clock` meets its contract: each return rewrites with the tests that led there.
 -- Assumes nothing.
-use Rattle.laws.specs.Choice.{if◌then◌else◌}
+use Rattle.laws.specs.Choice.{when◌then◌else◌}
 use Rattle.octets.specs.Times.{good_clock}
 use Rattle.octets.proofs.times.good_clock.Goals as goal
 
 pub returns-then-not-in_range : goal.returns-then-not-in_range
-unfolding good_clock if◌then◌else◌
+unfolding good_clock when◌then◌else◌
 returns-then-not-in_range c = rw (← c.in_range.ensures, c.if-not-in_range.true-raw)
 
 pub returns-then-not-in_range-2 : goal.returns-then-not-in_range-2
-unfolding good_clock if◌then◌else◌
+unfolding good_clock when◌then◌else◌
 returns-then-not-in_range-2 c = rw (← c.in_range.ensures, c.if-not-in_range.false-raw, ← c.in_range-2.ensures, c.if-not-in_range-2.true-raw)
 
 pub returns : goal.returns
-unfolding good_clock if◌then◌else◌
+unfolding good_clock when◌then◌else◌
 returns c = rw (← c.in_range.ensures, c.if-not-in_range.false-raw, ← c.in_range-2.ensures, c.if-not-in_range-2.false-raw) c.in_range-3.ensures

@@ -1,13 +1,13 @@
 -- `octets::good_date` meets its contract: each return rewrites with the tests that led there.
 -- Assumes nothing.
-use Rattle.laws.specs.Choice.{if◌then◌else◌}
+use Rattle.laws.specs.Choice.{when◌then◌else◌}
 use Rattle.octets.specs.Times.{good_date}
 use Rattle.octets.proofs.times.good_date.Goals as goal
 
 pub returns-then-not-in_range : goal.returns-then-not-in_range
-unfolding good_date if◌then◌else◌
+unfolding good_date when◌then◌else◌
 returns-then-not-in_range c = rw (← c.in_range.ensures, c.if-not-in_range.true-raw)
 
 pub returns : goal.returns
-unfolding good_date if◌then◌else◌
+unfolding good_date when◌then◌else◌
 returns c = rw (← c.in_range.ensures, c.if-not-in_range.false-raw) c.in_range-2.ensures

@@ -4,7 +4,7 @@ use mathlib.Core.Path.{◌≡◌, refl, ap, ◌∙◌}
 use native.Mathlib.Omega.{arith}
 use lib.ListN.{length}
 use borrow.Author.Tests.{ne_eqb}
-use Rattle.laws.specs.Choice.{if◌then◌else◌}
+use Rattle.laws.specs.Choice.{when◌then◌else◌}
 use Rattle.octets.specs.Fields.{octets_at}
 use Rattle.octets.specs.Times.{time_at}
 use Rattle.report_reader.specs.Decoders.{draft_times, published_times, times_in}
@@ -21,7 +21,7 @@ draft_times-requires c = let l : length c.pad.new.blank ≡ 9 = search rules in
     first-length _ _ _ 9 c.whole_of.ensures l
 
 pub returns-then-form-eq-DRAFT : goal.returns-then-form-eq-DRAFT
-unfolding times_in if◌then◌else◌
+unfolding times_in when◌then◌else◌
 returns-then-form-eq-DRAFT c = let l : length c.pad.new.blank ≡ 9 = search rules in
     let o = c.args.o.now in
     let w = c.whole_of.ensures ∙ ap (octets_at o 0) l in
@@ -36,7 +36,7 @@ published_times-requires c = let l : length c.pad-2.new.blank ≡ 23 = search ru
     first-length _ _ _ 23 c.whole_of-2.ensures l
 
 pub returns : goal.returns
-unfolding times_in if◌then◌else◌
+unfolding times_in when◌then◌else◌
 returns c = let l : length c.pad-2.new.blank ≡ 23 = search rules in
     let o = c.args.o.now in
     let w = c.whole_of-2.ensures ∙ ap (octets_at o 0) l in

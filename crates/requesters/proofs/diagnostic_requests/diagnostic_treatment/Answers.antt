@@ -1,18 +1,18 @@
 -- `requesters::diagnostic_requests::diagnostic_treatment` meets its contract.
 -- Assumes nothing.
 use borrow.Author.Tests.{ne_eqb}
-use Rattle.laws.specs.Choice.{if◌then◌else◌}
+use Rattle.laws.specs.Choice.{when◌then◌else◌}
 use Rattle.model.specs.Diagnostics.{diagnostic_treatment}
 use Rattle.requesters.proofs.diagnostic_requests.diagnostic_treatment.Goals as goal
 
 pub returns-in-0 : goal.returns-in-0
-unfolding diagnostic_treatment if◌then◌else◌
+unfolding diagnostic_treatment when◌then◌else◌
 returns-in-0 c = rw c.in-0.is
 
 pub returns-in-1 : goal.returns-in-1
-unfolding diagnostic_treatment if◌then◌else◌
+unfolding diagnostic_treatment when◌then◌else◌
 returns-in-1 c = rw c.in-1.is
 
 pub returns-in-2-to-255 : goal.returns-in-2-to-255
-unfolding diagnostic_treatment if◌then◌else◌
+unfolding diagnostic_treatment when◌then◌else◌
 returns-in-2-to-255 c = rw (ne_eqb _ 0 c.in-2-to-255.in-2-to-255-own.rest.0.1, ne_eqb _ 1 c.in-2-to-255.in-2-to-255-own.rest.1)

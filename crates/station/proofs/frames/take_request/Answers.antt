@@ -7,7 +7,7 @@ use lib.Dec.{ltb, eqb}
 use lib.ListN.{length, get_or, set}
 use lib.Seq.{set-get_or, set-set}
 use Rattle.model.specs.Model.{requester_capacity}
-use Rattle.laws.specs.Choice.{if◌then◌else◌}
+use Rattle.laws.specs.Choice.{when◌then◌else◌}
 use Rattle.laws.proofs.Arrays.{length_mapped}
 use Rattle.model.specs.Events.{open_events}
 use Rattle.requesters.specs.declared.Requester.{Requester}
@@ -20,7 +20,7 @@ use Rattle.station.proofs.frames.take_request.Goals as goal
 use Rattle.station.proofs.frames.take_request.Goals.{then-renews_events, else-renews_events, then-renews_diagnostics, else-renews_diagnostics}
 
 pub returns : goal.returns
-unfolding view view_timer view_outcome if◌then◌else◌
+unfolding view view_timer view_outcome when◌then◌else◌
 returns c = let a = c.args in
     let g = view a.g in
     let rs = a.g.requesters in
@@ -33,7 +33,7 @@ returns c = let a = c.args in
     let diagnostics = c.renews_diagnostics.result in
     let first = c.if-renews_events in
     let events = c.renews_events.result in
-    let e : (first.requesters ≡ set rs at first.x) × (first.x.address ≡ x.address) × (first.x.form ≡ x.form) × (view_events first.x.events ≡ (if events then some (open_events (length g.log) a.q) else view_events x.events)) × (first.x.diagnostics ≡ x.diagnostics) =
+    let e : (first.requesters ≡ set rs at first.x) × (first.x.address ≡ x.address) × (first.x.form ≡ x.form) × (view_events first.x.events ≡ (when events then some (open_events (length g.log) a.q) else view_events x.events)) × (first.x.diagnostics ≡ x.diagnostics) =
     elim first.branch [
       | then-renews_events w ↦ (w.requesters-is ∙ ap (set rs at) (sym w.x-is), ap (λ (r : Requester). r.address) w.x-is, ap (λ (r : Requester). r.form) w.x-is, rw (w.x-is, w.if-renews_events.true, w.new_events-x.ensures, w.logged_in.ensures), ap (λ (r : Requester). r.diagnostics) w.x-is)
       | else-renews_events w ↦ (w.requesters-is ∙ sym (set-get_or rs at past_requesters) ∙ ap (set rs at) (sym w.x-is), ap (λ (r : Requester). r.address) w.x-is, ap (λ (r : Requester). r.form) w.x-is, rw (w.x-is, w.if-renews_events.false), ap (λ (r : Requester). r.diagnostics) w.x-is)
