@@ -43,7 +43,7 @@ fn check_source() -> Result<String, Vec<String>> {
 
 fn check_compiled() -> Result<String, Vec<String>> {
     if !Path::new(ARCHIVE).exists() {
-        return Err(vec![format!("no {ARCHIVE}: rt lib conversion writes it")]);
+        return Err(vec![format!("no {ARCHIVE}: rt lib, in crates/conversion, writes it")]);
     }
     let output = match Command::new("objdump").args(["-d", "--no-show-raw-insn", ARCHIVE]).output() {
         Ok(output) => output,
