@@ -3,7 +3,7 @@
 
 use differential::compare::Difference;
 use differential::phases::Run;
-use differential::program::Programs;
+use differential::program::{Place, Programs};
 use differential::tally::Tally;
 use std::path::PathBuf;
 use std::process::ExitCode;
@@ -18,14 +18,16 @@ struct Options {
     frames: usize,
     reports: usize,
     traces: usize,
-    folder: PathBuf,
+    programs: Place,
 }
 
-/// Reads the command line; the folder may come from the environment variable PROGRAMS too.
+/// Reads the command line; a folder of programs may come from the environment variable PROGRAMS too. With
+/// none, they are where each is built.
 fn options() -> Result<Options, String> {
-    let default_folder = concat!(env!("CARGO_MANIFEST_DIR"), "/../target/bin");
-    let folder = std::env::var_os("PROGRAMS").map_or(PathBuf::from(default_folder), PathBuf::from);
-    let mut options = Options { seed: 1, frames: 60_000, reports: 20_000, traces: 1500, folder };
+    let crates = concat!(env!("CARGO_MANIFEST_DIR"), "/../crates");
+    let folder = std::env::var_os("PROGRAMS").map(PathBuf::from);
+    let programs = folder.map_or(Place::Crates(PathBuf::from(crates)), Place::Folder);
+    let mut options = Options { seed: 1, frames: 60_000, reports: 20_000, traces: 1500, programs };
     let mut words = std::env::args().skip(1);
     while let Some(word) = words.next() {
         if word == "--full" {
@@ -41,7 +43,7 @@ fn options() -> Result<Options, String> {
             "--frames" => options.frames = number()? as usize,
             "--reports" => options.reports = number()? as usize,
             "--traces" => options.traces = number()? as usize,
-            "--programs" => options.folder = PathBuf::from(value),
+            "--programs" => options.programs = Place::Folder(PathBuf::from(value)),
             _ => return Err(USAGE.to_string()),
         }
     }
@@ -74,7 +76,7 @@ fn main() -> ExitCode {
         }
     };
     println!("seed {}", options.seed);
-    let programs = match Programs::new(&options.folder) {
+    let programs = match Programs::new(options.programs.clone()) {
         Ok(programs) => programs,
         Err(message) => {
             eprintln!("{message}");

@@ -1,7 +1,7 @@
 //! The programs under test, run as child processes on standard input.
 
 use std::io::{Read, Write};
-use std::path::{Path, PathBuf};
+use std::path::PathBuf;
 use std::process::{Command, Stdio};
 use std::sync::mpsc;
 use std::thread;
@@ -10,26 +10,44 @@ use std::time::Duration;
 /// A run that takes longer than this is ended and counts as a difference.
 const LONGEST_RUN: Duration = Duration::from_secs(60);
 
-/// The folder with the programs `frame`, `report`, `replay` and `explain`.
+/// Where the programs `frame`, `report`, `replay` and `explain` are.
+#[derive(Clone)]
+pub enum Place {
+    /// Each in its crate, below this folder of crates, where it is built: NAME/out/NAME.
+    Crates(PathBuf),
+    /// Side by side in this folder.
+    Folder(PathBuf),
+}
+
+impl Place {
+    fn program(&self, name: &str) -> PathBuf {
+        match self {
+            Place::Crates(crates) => crates.join(name).join("out").join(name),
+            Place::Folder(folder) => folder.join(name),
+        }
+    }
+}
+
+/// The programs under test.
 pub struct Programs {
-    folder: PathBuf,
+    place: Place,
 }
 
 impl Programs {
-    /// The programs in this folder; an error names the first one that is missing.
-    pub fn new(folder: &Path) -> Result<Programs, String> {
+    /// The programs at this place; an error names the first one that is missing.
+    pub fn new(place: Place) -> Result<Programs, String> {
         for name in ["frame", "report", "replay", "explain"] {
-            let path = folder.join(name);
+            let path = place.program(name);
             if !path.is_file() {
                 return Err(format!("there is no program {}", path.display()));
             }
         }
-        Ok(Programs { folder: folder.to_path_buf() })
+        Ok(Programs { place })
     }
 
     /// What the program prints for this input. A line is added where it ends by a signal or not at all.
     pub fn run(&self, name: &str, input: &[u8]) -> Vec<u8> {
-        let mut child = Command::new(self.folder.join(name))
+        let mut child = Command::new(self.place.program(name))
             .stdin(Stdio::piped())
             .stdout(Stdio::piped())
             .spawn()
@@ -57,5 +75,24 @@ impl Programs {
             printed.extend(format!("the program ended by {status}\n").bytes());
         }
         printed
+    }
+}
+
+#[cfg(test)]
+mod tests {
+    use super::*;
+
+    #[test]
+    fn where_a_program_is() {
+        let built = Place::Crates(PathBuf::from("crates"));
+        assert_eq!(built.program("frame"), PathBuf::from("crates/frame/out/frame"));
+        let beside = Place::Folder(PathBuf::from("bin"));
+        assert_eq!(beside.program("frame"), PathBuf::from("bin/frame"));
+    }
+
+    #[test]
+    fn a_program_that_is_missing_is_named() {
+        let missing = Programs::new(Place::Folder(PathBuf::from("no/such/folder"))).err();
+        assert_eq!(missing.as_deref(), Some("there is no program no/such/folder/frame"));
     }
 }

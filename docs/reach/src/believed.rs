@@ -60,14 +60,13 @@ mod tests {
     /// A crate whose file Internal.antt defines `inner`, whose other definition uses it as given, with a
     /// function of that other one and a private one of `inner`.
     fn crate_with(other: &str) -> Graph {
-        let open =
-            format!("use Rattle·a·specs.specs.Internal.{{inner}}\n\nabbrev pub open : ℕ\nopen = {other}\n");
-        let code = "ghost use Rattle·a·specs.specs.Internal.{inner};
-ghost use Rattle·a·specs.specs.Open.{open};
+        let open = format!("use Rattle.a.specs.Internal.{{inner}}\n\nabbrev pub open : ℕ\nopen = {other}\n");
+        let code = "ghost use Rattle.a.specs.Internal.{inner};
+ghost use Rattle.a.specs.Open.{open};
 
-pub fn entry() -> u8 ensures { λ r. ⌜ r ≡ open ⌝ } { 0 }
+pub fn entry() -> u8 ensures { result ≡ open } { 0 }
 
-fn helper() -> u8 ensures { λ r. ⌜ r ≡ inner ⌝ } { 0 }
+fn helper() -> u8 ensures value { result ≡ inner } { 0 }
 ";
         sample::graph(&[
             ("a", Part::Code, "lib", code),

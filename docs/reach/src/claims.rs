@@ -60,7 +60,7 @@ mod tests {
 
     fn crate_with(law: &str) -> Graph {
         let specs = "abbrev pub Claim : Type 0\nClaim = ℕ\n";
-        let proofs = format!("use Rattle·a·specs.specs.Claims.{{Claim}}\n\n{law}\n");
+        let proofs = format!("use Rattle.a.specs.Claims.{{Claim}}\n\n{law}\n");
         sample::graph(&[("a", Part::Specs, "Claims", specs), ("a", Part::Proofs, "Claims", &proofs)]).unwrap()
     }
 

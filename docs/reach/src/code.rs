@@ -74,9 +74,11 @@ impl<'a> Text<'a> {
         self.word(start) == "pub" && self.word(start + 1) != "("
     }
 
-    /// The function whose `fn` is at a place, and the place of its end.
+    /// The function whose `fn` is at a place, and the place of its end. Type parameters, `<R: Read>`, stand
+    /// between its name and its brackets.
     fn parse_function(&self, at: usize) -> Result<(Function<'a>, usize), String> {
-        let open = at + 2;
+        let name = self.word(at + 1).split('<').next().unwrap_or_default();
+        let open = (at + 2..self.words.len()).find(|&i| self.word(i) == "(").unwrap_or(at);
         let mut end = self.closing(open)?;
         let is_parameter = |i: &usize| {
             let is_path = self.word(*i) == ":" || self.word(i + 2) == ":";
@@ -87,7 +89,7 @@ impl<'a> Text<'a> {
         loop {
             end += 1;
             match self.word(end) {
-                "requires" | "ensures" => {
+                "requires" | "ensures" | "requires*" | "ensures*" => {
                     let open = if self.word(end + 1) == "{" { end + 1 } else { end + 2 };
                     end = self.closing(open)?;
                     contract.push(self.words[open + 1..end].to_vec());
@@ -98,7 +100,7 @@ impl<'a> Text<'a> {
                 _ => {}
             }
         }
-        Ok((Function { name: self.word(at + 1), public: self.is_public(at), parameters, contract }, end))
+        Ok((Function { name, public: self.is_public(at), parameters, contract }, end))
     }
 }
 
@@ -129,10 +131,13 @@ pub fn parse(text: &str) -> Result<Code<'_>, String> {
 mod tests {
     use super::*;
 
-    const SAMPLE: &str = "use a::B;
+    const SAMPLE: &str = "#![tactic(auto)]
+
+use a::{B, C};
 
 // Its comment.
 #[repr(C)]
+#[derive(Clone, Copy)]
 pub struct S {
     pub one: [B; 4],
 
@@ -147,14 +152,22 @@ enum E {
 }
 
 impl S {
+    #[unsafe(no_mangle)]
     pub extern \"C\" fn f(self, log: &[u8; 4], r: other::R) -> [S; 2]
-        requires { ⌜ log ≡ log ⌝ }
-        ensures NAMED { λ r. ⌜ g r ≡ (record { one = self }) ⌝ }
+        requires { log.now ≡ log.now }
+        ensures named { g result.one ≡ (record { one = self }) }
     {
         if x { y } // }
     }
 
     pub(crate) fn g() -> u8 {
+        0
+    }
+
+    pub fn h<'a, R: Read>(rt: &'a R, buf: &mut [u8]) -> usize
+        ensures* { ⌜ p rt ⌝ }
+        ensures within { result ≤ length buf.new }
+    {
         0
     }
 }
@@ -164,7 +177,7 @@ impl S {
     fn types() {
         let code = parse(SAMPLE).unwrap();
         let types: Vec<(&str, usize)> = code.types.iter().map(|t| (t.name, t.lines)).collect();
-        assert_eq!(types, [("S", 6), ("T", 1), ("E", 4)]);
+        assert_eq!(types, [("S", 7), ("T", 1), ("E", 4)]);
         assert!(code.types[0].ty.contains(&"B"));
         assert!(code.types[2].ty.contains(&"Right"));
     }
@@ -172,11 +185,14 @@ impl S {
     #[test]
     fn functions() {
         let code = parse(SAMPLE).unwrap();
-        let [f, g] = &code.functions[..] else { panic!("two functions") };
+        let [f, g, h] = &code.functions[..] else { panic!("three functions") };
         assert_eq!((f.name, f.public, &f.parameters[..]), ("f", true, &["self", "log", "r"][..]));
-        assert_eq!(f.contract[0], ["⌜", "log", "≡", "log", "⌝"]);
+        assert_eq!(f.contract[0], ["log", ".now", "≡", "log", ".now"]);
         assert_eq!(f.contract.len(), 2);
         assert_eq!((g.name, g.public, g.contract.len()), ("g", false, 0));
+        assert_eq!((h.name, h.public, &h.parameters[..]), ("h", true, &["rt", "buf"][..]));
+        assert_eq!(h.contract[1], ["result", "≤", "length", "buf", ".new"]);
+        assert_eq!(h.contract.len(), 2);
     }
 
     #[test]

@@ -146,7 +146,7 @@ mod tests {
     use super::*;
 
     const SAMPLE: &str = "-- A file.
-use Rattle·a.specs.A.{x}
+use Rattle.a.specs.A.{x}
 
 -- ---- a part
 

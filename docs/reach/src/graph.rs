@@ -108,7 +108,7 @@ mod tests {
     fn an_import_of_nothing_is_a_fault() {
         let faults = sample::graph(&[
             ("a", Part::Specs, "A", ""),
-            ("b", Part::Specs, "B", "use Rattle·a.specs.A.{x}"),
+            ("b", Part::Specs, "B", "use Rattle.a.specs.A.{x}"),
         ]);
         assert_eq!(faults.unwrap_err(), ["crates/b/specs/B.antt: no `x` where it is imported from"]);
     }

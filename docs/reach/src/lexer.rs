@@ -71,8 +71,11 @@ mod tests {
 
     #[test]
     fn names_marks_and_projections() {
-        let line = "next-first r = (λ p. f p .at) -- not this";
-        assert_eq!(words(line, "--"), ["next-first", "r", "=", "(", "λ", "p", ".", "f", "p", ".at", ")"]);
+        let line = "put_at-fits r' = (λ p. f p.at.1) ◌∷◌ -- not this";
+        assert_eq!(
+            words(line, "--"),
+            ["put_at-fits", "r'", "=", "(", "λ", "p", ".", "f", "p", ".at", ".1", ")", "◌∷◌"]
+        );
     }
 
     #[test]

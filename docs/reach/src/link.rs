@@ -8,6 +8,9 @@ use crate::mentions::{Mentions, Scope, Target};
 use crate::sources::{Part, Source};
 use crate::{unless, Faults};
 
+/// What a clause calls the function's value, whatever of the logic has that name too.
+const RESULT: &str = "result";
+
 /// A parsed file; its nodes are those from first on.
 struct File<'a> {
     source: &'a Source,
@@ -73,11 +76,14 @@ impl<'a> Linker<'a> {
         }
     }
 
-    /// Is it a crate of the toolchain, or a module of proofs that the toolchain makes?
+    /// Is it a crate of the toolchain, or a module that the toolchain makes: of proofs, or
+    /// `specs.contracts.TYPE`?
     fn is_outside(&self, origin: &Origin) -> bool {
         match origin {
-            Origin::File { krate, part: Part::Proofs, module } => {
-                self.file(krate, Part::Proofs, module).is_none()
+            Origin::File { krate, part, module }
+                if *part == Part::Proofs || module.starts_with("contracts/") =>
+            {
+                self.file(krate, *part, module).is_none()
             }
             _ => !self.files.iter().any(|file| file.source.krate == origin.krate()),
         }
@@ -107,11 +113,14 @@ impl<'a> Linker<'a> {
     /// types of one name in a crate the first is taken.
     fn code_scope(&self, file: &File<'a>) -> Scope<'a> {
         let mut scope = Scope::default();
-        for (krate, import) in file.source.text.lines().filter_map(imports::code) {
+        for (krate, names) in imports::code(&file.source.text) {
             let krate = if krate == "crate" { &file.source.krate } else { krate };
             let of_crate = |f: &&File| f.source.krate == krate && f.source.part == Part::Code;
-            if let Some(target) = self.files.iter().filter(of_crate).find_map(|f| f.target(import.name)) {
-                scope.insert(import.alias, target);
+            for import in names {
+                let mut files = self.files.iter().filter(of_crate);
+                if let Some(target) = files.find_map(|f| f.target(import.name)) {
+                    scope.insert(import.alias, target);
+                }
             }
         }
         file.own_names().for_each(|(name, target)| scope.insert(name, target));
@@ -162,6 +171,7 @@ fn contract_uses<'a>(function: &Function<'a>, scope: &Scope<'a>) -> Nodes {
     let mut uses = Nodes::new();
     for promise in &function.contract {
         let mut mentions = Mentions::new(scope);
+        mentions.bind(RESULT);
         for parameter in &function.parameters {
             mentions.bind(parameter);
         }

@@ -8,6 +8,9 @@
 use crate::lexer::is_mark;
 use std::collections::{BTreeSet, HashMap};
 
+/// Where an operator's name has an argument.
+const PLACE: char = '◌';
+
 /// What a name stands for: a node of the graph.
 #[derive(Clone, Copy, Debug, PartialEq)]
 pub struct Target {
@@ -16,14 +19,17 @@ pub struct Target {
     pub constructor: bool,
 }
 
-/// The names of a file. A mixfix name (`if_then_else_`) is known by its first word.
+/// The names of a file. An operator (`when◌then◌else◌`) is known by its first word too.
 #[derive(Debug, Default)]
 pub struct Scope<'a>(HashMap<&'a str, Target>);
 
 impl<'a> Scope<'a> {
     pub fn insert(&mut self, name: &'a str, target: Target) {
-        let word = name.split('_').find(|word| !word.is_empty()).unwrap_or(name);
-        self.0.insert(word, target);
+        self.0.insert(name, target);
+        if name.contains(PLACE) {
+            let word = name.split(PLACE).find(|word| !word.is_empty());
+            self.0.extend(word.map(|word| (word, target)));
+        }
     }
 }
 
@@ -129,7 +135,7 @@ mod tests {
 
     fn scope() -> Scope<'static> {
         let mut scope = Scope::default();
-        for (node, name) in ["f", "g", "con", "if_then_else_"].into_iter().enumerate() {
+        for (node, name) in ["f", "g", "con", "when◌then◌else◌", "f_g"].into_iter().enumerate() {
             scope.insert(name, Target { node, constructor: name == "con" });
         }
         scope
@@ -144,8 +150,11 @@ mod tests {
 
     #[test]
     fn names() {
-        assert_eq!(mentioned("f (x .g) -- con"), [0]);
-        assert_eq!(mentioned("if b then con else x"), [2, 3]);
+        assert_eq!(mentioned("f x.g -- con"), [0]);
+        assert_eq!(mentioned("f x g.now"), [0, 1]);
+        assert_eq!(mentioned("f_g (g-f f')"), [4]);
+        assert_eq!(mentioned("when b then con else x"), [2, 3]);
+        assert_eq!(mentioned("h when◌then◌else◌"), [3]);
         assert_eq!(mentioned("record { f = con; g = 0 }"), [2]);
     }
 

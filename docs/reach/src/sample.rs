@@ -22,9 +22,9 @@ abbrev pub two : ℕ
 two = 2
 ";
 
-const HIGH: &str = "use Rattle·low.specs.Low.{one, two as pair}
-use Rattle·low.specs.declared.Kind.{Kind}
-use Rattle·low.specs.declared.Kind.the-variants.{Odd}
+const HIGH: &str = "use Rattle.low.specs.Low.{one, two as pair}
+use Rattle.low.specs.declared.Kind.{Kind}
+use Rattle.low.specs.declared.Kind.TheVariants.{Odd}
 
 -- both
 unfoldable pub both : Kind → ℕ
@@ -37,22 +37,22 @@ abbrev pub Claim : Type 0
 Claim = only 0 ≡ 1
 ";
 
-const LAWS: &str = "use Rattle·high·specs.specs.High.{Claim}
+const LAWS: &str = "use Rattle.high.specs.High.{Claim}
 
 pub claim : Claim
 claim = refl
 ";
 
-const CODE: &str = "ghost use Rattle·high·specs.specs.High.{both, only};
+const CODE: &str = "ghost use Rattle.high.specs.High.{both, only};
 
 pub fn count(kind: Kind) -> u8
-    ensures { λ r. ⌜ r ≡ both kind ⌝ }
+    ensures { result ≡ both kind }
 {
     2
 }
 
 fn first(n: u8) -> u8
-    ensures { λ r. ⌜ r ≡ only n ⌝ }
+    ensures value { result ≡ only n }
 {
     1
 }

@@ -50,12 +50,15 @@ pub fn read_text(path: &Path) -> Result<String, Faults> {
     fs::read_to_string(path).map_err(|e| vec![format!("{}: {e}", path.display())])
 }
 
+/// What the proof of a function is written in, in proofs/FUNCTION/.
+const FUNCTION_PROOFS: [&str; 3] = ["/Invariants", "/Answers", "/Proof"];
+
 /// The modules of a part, in the order of its Lib.antt where it has one. Left out are that file, and the proof
-/// of a function (proofs/FUNCTION/Proof.antt), which no other file can use.
+/// of a function, which no other file can use.
 fn modules(folder: &Path, part: Part) -> Vec<String> {
     let mut found = Vec::new();
     gather(folder, "", part.suffix(), &mut found);
-    found.retain(|module| module != "Lib" && !module.ends_with("/Proof"));
+    found.retain(|module| module != "Lib" && !FUNCTION_PROOFS.iter().any(|name| module.ends_with(name)));
     let lib = fs::read_to_string(folder.join("Lib.antt")).unwrap_or_default();
     let order: Vec<&str> = lib.lines().filter_map(|line| line.strip_prefix("pub mod ")).collect();
     let place = |module: &String| order.iter().position(|name| name == module).unwrap_or(order.len());
@@ -76,12 +79,18 @@ fn gather(folder: &Path, prefix: &str, suffix: &str, found: &mut Vec<String>) {
     }
 }
 
+/// The crates of crates.txt, a line `NAME: ..` or `NAME staticlib: ..` each, in their order.
+fn crates(list: &str) -> Vec<&str> {
+    let lines = list.lines().map(|line| line.split('#').next().unwrap_or_default());
+    let heads = lines.filter_map(|line| line.split_once(':'));
+    heads.filter_map(|(head, _)| head.split_whitespace().next()).collect()
+}
+
 /// Every file, crate by crate in the order of crates.txt.
 pub fn read(top: &Path) -> Result<Vec<Source>, Faults> {
     let mut sources = Vec::new();
-    let list = read_text(&top.join("crates.txt"))?;
-    let crates = list.lines().filter(|line| !line.starts_with('#')).filter_map(|line| line.split_once(':'));
-    for (krate, _) in crates {
+    for krate in crates(&read_text(&top.join("crates.txt"))?) {
+        let before = sources.len();
         for part in PARTS {
             let folder = top.join("crates").join(krate).join(part.folder());
             for module in modules(&folder, part) {
@@ -89,6 +98,20 @@ pub fn read(top: &Path) -> Result<Vec<Source>, Faults> {
                 sources.push(Source { krate: krate.to_string(), part, module, text });
             }
         }
+        if sources.len() == before {
+            return Err(vec![format!("crates.txt: no file of the crate {krate}")]);
+        }
     }
     Ok(sources)
+}
+
+#[cfg(test)]
+mod tests {
+    use super::*;
+
+    #[test]
+    fn crates_and_static_libraries() {
+        let list = "# a line: of words\nlow:\n\nhigh staticlib: low # behind: it\ntop: high low\n";
+        assert_eq!(crates(list), ["low", "high", "top"]);
+    }
 }

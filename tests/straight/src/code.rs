@@ -15,7 +15,7 @@ pub struct Code<'a> {
     pub functions: Vec<Function<'a>>,
     pub structs: Vec<&'a str>,
     pub enums: Vec<&'a str>,
-    /// The paths of its `use` items, one name each.
+    /// The paths of the names that its `use` items bring; of a group one for each.
     pub imports: Vec<Vec<&'a str>>,
 }
 
@@ -52,16 +52,42 @@ impl<'a> Text<'a> {
         }
     }
 
-    /// The path of the `use` at a place, if it names one thing, and not a definition of the logic.
-    fn import(&self, at: usize) -> Result<Option<Vec<&'a str>>, String> {
+    /// The paths of the `use` at a place, none if it is of the logic: `a::b`, or `a::{b, c::d}`. A name that
+    /// it brings under another, by `as`, is left out.
+    fn imports(&self, at: usize) -> Result<Vec<Vec<&'a str>>, String> {
         let end = self.find(at, ";")?;
-        let is_plain = |t: &&Token| t.text == "::" || t.is_name() && t.text != "as";
         let is_logic = at > 0 && self.word(at - 1) == "ghost";
-        let path = &self.0[at + 1..end];
-        let is_one = path.iter().filter(is_plain).count() == path.len();
-        let names = || path.iter().filter(|token| token.is_name()).map(|token| token.text).collect();
-        Ok((is_one && !is_logic).then(names))
+        let mut found = Vec::new();
+        if !is_logic {
+            paths(&[], &self.0[at + 1..end], &mut found);
+        }
+        Ok(found)
     }
+}
+
+/// The paths of what stands behind a path's beginning, `::` and groups in it.
+fn paths<'a>(start: &[&'a str], behind: &[Token<'a>], found: &mut Vec<Vec<&'a str>>) {
+    let names = behind.iter().take_while(|token| token.text == "::" || token.is_name());
+    let (names, rest) = behind.split_at(names.count());
+    let path = || start.iter().copied().chain(names.iter().filter(|t| t.is_name()).map(|t| t.text)).collect();
+    let path: Vec<&str> = path();
+    match rest {
+        [open, inner @ .., close] if open.text == "{" && close.text == "}" => {
+            members(inner).into_iter().for_each(|member| paths(&path, member, found));
+        }
+        [] if !names.is_empty() && !path.contains(&"as") => found.push(path),
+        _ => {}
+    }
+}
+
+/// What stands between a group's own commas.
+fn members<'t, 'a>(group: &'t [Token<'a>]) -> Vec<&'t [Token<'a>]> {
+    let mut depth = 0;
+    let is_own = |token: &Token| {
+        depth += i32::from(token.text == "{") - i32::from(token.text == "}");
+        token.text == "," && depth == 0
+    };
+    group.split(is_own).collect()
 }
 
 pub fn parse(text: &str) -> Result<Code<'_>, String> {
@@ -75,7 +101,7 @@ pub fn parse(text: &str) -> Result<Code<'_>, String> {
             "impl" => owner = (name, text.closing(text.find(at, "{")?)?),
             "struct" => code.structs.push(name),
             "enum" => code.enums.push(name),
-            "use" => code.imports.extend(text.import(at)?),
+            "use" => code.imports.extend(text.imports(at)?),
             "fn" => {
                 let (open, close) = text.body(at)?;
                 let owner = (at < owner.1).then_some(owner.0);
@@ -93,19 +119,26 @@ pub fn parse(text: &str) -> Result<Code<'_>, String> {
 mod tests {
     use super::*;
 
-    const SAMPLE: &str = "use units::Milliseconds;
-ghost use lib.Dec.{ltb};
-use a::{b, c};
+    const SAMPLE: &str = "#![tactic(auto)]
+use units::Milliseconds;
+ghost use Rattle.std.specs.Prelude.{ltb, ◌≡◌};
+ghost use Rattle.units.specs.Time.{age as time_age};
+use a::{b, c::{d, e}, f as g};
+use a::h as i;
+#[derive(Clone, Copy)]
 struct S(pub u32);
 enum E { One(u8) }
 impl S {
     pub fn first<'a>(self, s: &'a [u8; 4]) -> [u8; 2]
-        requires { ⌜ a < b ⌝ }
-        ensures NAMED { λ r. ⌜ r ≡ (record { x = 1 }) ⌝ }
+        requires { a < b }
+        ensures { result.0 ≡ f s.now }
+        ensures named { result ≡ (record { x = 1 }) }
+        ensures* { ⌜ a ⌝ }
     {
         one
     }
 }
+#[unsafe(no_mangle)]
 pub extern \"C\" fn second() { two }
 ";
 
@@ -123,7 +156,10 @@ pub extern \"C\" fn second() { two }
     fn types_and_imports() {
         let code = parse(SAMPLE).unwrap();
         assert_eq!((code.structs, code.enums), (vec!["S"], vec!["E"]));
-        assert_eq!(code.imports, [["units", "Milliseconds"]]);
+        assert_eq!(
+            code.imports,
+            [vec!["units", "Milliseconds"], vec!["a", "b"], vec!["a", "c", "d"], vec!["a", "c", "e"]]
+        );
     }
 
     #[test]

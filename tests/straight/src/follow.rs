@@ -198,17 +198,19 @@ mod tests {
     /// A library beside a crate whose `low::T::start` has a body.
     fn faults(body: &str) -> Vec<String> {
         let low = format!(
-            "use high::double;
-use high::Answer;
+            "#![tactic(auto)]
+ghost use Rattle.std.specs.Prelude.{{◌≡◌, ◌<◌}};
+use high::{{Answer, double}};
 use std::num::min;
+#[derive(Clone, Copy)]
 pub struct T(pub u64);
 impl T {{
     const TWO: u64 = 2;
 
     // if a < b
     pub fn start(x: u64) -> T
-        requires {{ ⌜ x < 5 ⌝ }}
-        ensures {{ λ r. ⌜ if x == 1 ⌝ }}
+        requires {{ x < 5 }}
+        ensures small {{ result.0 < 5 ≡ if x == 1 }}
     {{
         {body}
     }}
@@ -293,6 +295,7 @@ pub fn branches(x: u64) -> u64 { match x { 0 => 1, _ => 2 } }
         assert_fault("T(std::num::min(x, 2))", "calls `std::num::min`: cannot be followed");
         assert_fault("T(other::double(x))", "calls `other::double`: cannot be followed");
         assert_fault("T(x.min(2))", "calls `.min`: cannot be followed");
+        assert_fault("T(T(x).0.wrapping_sub(2))", "calls `.wrapping_sub`: cannot be followed");
         assert_fault("T(u64::double(x))", "calls `u64::double`: cannot be followed");
         assert_fault("T(choose!(x, 2))", "calls what stands at `choose`: cannot be followed");
         assert_fault("T((f)(x))", "calls what stands at `)`: cannot be followed");

@@ -18,7 +18,7 @@ const CONVERSION: &str = "units::TimeUnits::from_milliseconds";
 
 /// The function that is the conversion by itself (crates/conversion), and the archive that has it.
 const EXPORTED: &str = "tus_of";
-const ARCHIVE: &str = "target/staticlib/libconversion.a";
+const ARCHIVE: &str = "crates/conversion/out/libconversion.a";
 
 /// The files of every crate's src/.
 fn sources(top: &Path) -> std::io::Result<Vec<Source>> {
@@ -43,7 +43,7 @@ fn check_source() -> Result<String, Vec<String>> {
 
 fn check_compiled() -> Result<String, Vec<String>> {
     if !Path::new(ARCHIVE).exists() {
-        return Err(vec![format!("no {ARCHIVE}: rt staticlib conversion writes it")]);
+        return Err(vec![format!("no {ARCHIVE}: rt lib, in crates/conversion, writes it")]);
     }
     let output = match Command::new("objdump").args(["-d", "--no-show-raw-insn", ARCHIVE]).output() {
         Ok(output) => output,
@@ -113,7 +113,7 @@ mod tests {
             ("let most = tus > over;", "`>`"),
             ("let most = tus >= over;", "`>=`"),
             ("let most = TimeUnits(1).at_least(TimeUnits(2));", "`at_least` has `<=`"),
-            ("let age = age.since(age);", "`std::num::wrapping_sub_u32`: cannot be followed"),
+            ("let age = age.since(age);", "`since` calls `.wrapping_sub`: cannot be followed"),
             ("let tus = std::num::min(tus, 1);", "`std::num::min`: cannot be followed"),
         ] {
             let faults = planted(statement).unwrap_err();
