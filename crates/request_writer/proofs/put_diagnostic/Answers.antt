@@ -10,10 +10,12 @@ use Rattle.request_writer.specs.Frames.{element_octets}
 use Rattle.request_writer.proofs.Writing.{diagnostic_octets}
 use Rattle.request_writer.proofs.put_diagnostic.Goals as goal
 
-pub returns-clause-value : goal.returns-clause-value
-returns-clause-value c = let a = c.args in let e : c.request_id.result ∷ 4 ∷ a.e.token ∷ a.e.ty ∷ c.low.result ∷ c.high.result ∷ [] ≡ element_octets Diagnostic a.e
-    = rw (c.request_id.ensures, c.low.ensures, c.high.ensures) (diagnostic_octets a.e) in (c.copy.ensures.value ∙ ap length (diagnostic_octets a.e), omega (arith, c.copy.ensures.value))
-
-pub returns-clause-buf_after : goal.returns-clause-buf_after
-returns-clause-buf_after c = let a = c.args in let e : c.request_id.result ∷ 4 ∷ a.e.token ∷ a.e.ty ∷ c.low.result ∷ c.high.result ∷ [] ≡ element_octets Diagnostic a.e
-    = rw (c.request_id.ensures, c.low.ensures, c.high.ensures) (diagnostic_octets a.e) in copied _ _ a.buf.now c.copy.new.buf e c.copy.ensures.after
+pub returns : goal.returns
+returns c =
+    let a = c.args in
+    let e : c.request_id.result ∷ 4 ∷ a.e.token ∷ a.e.ty ∷ c.low.result ∷ c.high.result ∷ [] ≡ element_octets Diagnostic a.e
+    = rw (c.request_id.ensures, c.low.ensures, c.high.ensures) (diagnostic_octets a.e) in
+    record {
+      value = (c.copy.ensures.value ∙ ap length (diagnostic_octets a.e), omega (arith, c.copy.ensures.value));
+      buf_after = copied _ _ a.buf.now c.copy.new.buf e c.copy.ensures.after;
+    }

@@ -21,8 +21,20 @@ put_filter-n-requires c = let a = c.args in
     let five : length a.e.filter ≡ 5 = search (rules, length_mapped) in
     omega (arith, filter-length a.e.ty a.e.filter five, tail_length a.buf.now 5 (omega (arith, c.requires)))
 
-pub returns-clause-value : goal.returns-clause-value
-returns-clause-value c = let a = c.args in let s = a.buf.now in let f = c.put_filter-n in let id = c.request_id in let n = f.result in let is = f.ensures.value.0 in let o : List ℕ = filter_octets a.e.ty a.e.filter in let h : List ℕ = 78 ∷ (3 + n) ∷ a.e.token ∷ a.e.ty ∷ a.e.limit ∷ [] in let all : h ++ o ≡ element_octets Event a.e = event-octets a.e n is in let src : id.result ∷ (3 + n) ∷ a.e.token ∷ a.e.ty ∷ a.e.limit ∷ [] ≡ h = rw id.ensures in let behind = lent_tail o s f.new.buf 5 (omega (arith, c.requires)) f.ensures.buf_after in (omega (arith, is, ap length all), omega (arith, f.ensures.value.1))
-
-pub returns-clause-buf_after : goal.returns-clause-buf_after
-returns-clause-buf_after c = let a = c.args in let s = a.buf.now in let f = c.put_filter-n in let id = c.request_id in let n = f.result in let is = f.ensures.value.0 in let o : List ℕ = filter_octets a.e.ty a.e.filter in let h : List ℕ = 78 ∷ (3 + n) ∷ a.e.token ∷ a.e.ty ∷ a.e.limit ∷ [] in let all : h ++ o ≡ element_octets Event a.e = event-octets a.e n is in let src : id.result ∷ (3 + n) ∷ a.e.token ∷ a.e.ty ∷ a.e.limit ∷ [] ≡ h = rw id.ensures in let behind = lent_tail o s f.new.buf 5 (omega (arith, c.requires)) f.ensures.buf_after in copied h (id.result ∷ (3 + n) ∷ a.e.token ∷ a.e.ty ∷ a.e.limit ∷ []) (put_mid 5 (length s - 5) s f.new.buf) c.copy.new.buf src c.copy.ensures.after ∙ ap (onto h) behind ∙ headed h o s 5 refl (omega (arith, c.requires)) ∙ ap (λ (x : List ℕ). onto x s) all
+pub returns : goal.returns
+returns c =
+    let a = c.args in
+    let s = a.buf.now in
+    let f = c.put_filter-n in
+    let id = c.request_id in
+    let n = f.result in
+    let is = f.ensures.value.0 in
+    let o : List ℕ = filter_octets a.e.ty a.e.filter in
+    let h : List ℕ = 78 ∷ (3 + n) ∷ a.e.token ∷ a.e.ty ∷ a.e.limit ∷ [] in
+    let all : h ++ o ≡ element_octets Event a.e = event-octets a.e n is in
+    let src : id.result ∷ (3 + n) ∷ a.e.token ∷ a.e.ty ∷ a.e.limit ∷ [] ≡ h = rw id.ensures in
+    let behind = lent_tail o s f.new.buf 5 (omega (arith, c.requires)) f.ensures.buf_after in
+    record {
+      value = (omega (arith, is, ap length all), omega (arith, f.ensures.value.1));
+      buf_after = copied h (id.result ∷ (3 + n) ∷ a.e.token ∷ a.e.ty ∷ a.e.limit ∷ []) (put_mid 5 (length s - 5) s f.new.buf) c.copy.new.buf src c.copy.ensures.after ∙ ap (onto h) behind ∙ headed h o s 5 refl (omega (arith, c.requires)) ∙ ap (λ (x : List ℕ). onto x s) all;
+    }

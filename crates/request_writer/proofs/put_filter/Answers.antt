@@ -27,8 +27,12 @@ loop-id-preserved c = let i = c.loop-id.invariant in
     let next = pieces_next (condition_octets a.ty) f id past_filter (omega (arith, i.1)) in
     (omega arith, i.1, rw c.put_condition-at.ensures.value (putting_next i.2 (condition_octets a.ty id (get_or f id past_filter)) (pieces (condition_octets a.ty) (id + 1) (drop (id + 1) f)) next c.put_condition-at.new.buf c.put_condition-at.ensures.buf_after))
 
-pub returns-clause-value : goal.returns-clause-value
-returns-clause-value c = let i = c.loop-id.invariant in let e = pieces_end (condition_octets c.args.ty) c.args.filter c.loop-id.id (omega (arith, i.1)) in let n = putting_end i.2 e in (n, omega (arith, n, filter-length c.args.ty c.args.filter i.1))
-
-pub returns-clause-buf_after : goal.returns-clause-buf_after
-returns-clause-buf_after c = let i = c.loop-id.invariant in let e = pieces_end (condition_octets c.args.ty) c.args.filter c.loop-id.id (omega (arith, i.1)) in let n = putting_end i.2 e in putting_done i.2 e
+pub returns : goal.returns
+returns c =
+    let i = c.loop-id.invariant in
+    let e = pieces_end (condition_octets c.args.ty) c.args.filter c.loop-id.id (omega (arith, i.1)) in
+    let n = putting_end i.2 e in
+    record {
+      value = (n, omega (arith, n, filter-length c.args.ty c.args.filter i.1));
+      buf_after = putting_done i.2 e;
+    }

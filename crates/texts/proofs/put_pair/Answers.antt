@@ -5,8 +5,5 @@ use Rattle.texts.proofs.NumberLaws.{named_put}
 use borrow.Author.Rules.{rules}
 use Rattle.texts.proofs.put_pair.Goals as goal
 
-pub returns-clause-buf_after : goal.returns-clause-buf_after
-returns-clause-buf_after c = (named_put 5 _ _ _ _ _ _ (search rules) (omega arith) c.put_number.ensures).0
-
-pub returns-clause-n_in_bounds : goal.returns-clause-n_in_bounds
-returns-clause-n_in_bounds c = (named_put 5 _ _ _ _ _ _ (search rules) (omega arith) c.put_number.ensures).1
+pub returns : goal.returns
+returns c = let both = named_put 5 _ _ _ _ _ _ (search rules) (omega arith) c.put_number.ensures in record { buf_after = both.0; n_in_bounds = both.1 }

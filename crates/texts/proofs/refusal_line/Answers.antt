@@ -5,10 +5,6 @@ use Rattle.texts.proofs.PutLaws.{one, short, both, whole}
 use borrow.Author.Rules.{rules}
 use Rattle.texts.proofs.refusal_line.Goals as goal
 
-pub returns-clause-line_after : goal.returns-clause-line_after
+pub returns : goal.returns
 unfolding refusal_line
-returns-clause-line_after c = (whole (both (both (short (c.put_octet-next.ensures.buf_after, c.put_octet-next.ensures.n_in_bounds)) (short (c.put_size-next.ensures.buf_after, c.put_size-next.ensures.n_in_bounds))) (one c.put.ensures)) (search rules)).0
-
-pub returns-clause-within : goal.returns-clause-within
-unfolding refusal_line
-returns-clause-within c = (whole (both (both (short (c.put_octet-next.ensures.buf_after, c.put_octet-next.ensures.n_in_bounds)) (short (c.put_size-next.ensures.buf_after, c.put_size-next.ensures.n_in_bounds))) (one c.put.ensures)) (search rules)).1
+returns c = let both = whole (both (both (short (c.put_octet-next.ensures.buf_after, c.put_octet-next.ensures.n_in_bounds)) (short (c.put_size-next.ensures.buf_after, c.put_size-next.ensures.n_in_bounds))) (one c.put.ensures)) (search rules) in record { line_after = both.0; within = both.1 }

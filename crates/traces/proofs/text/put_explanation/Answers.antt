@@ -6,50 +6,26 @@ use Rattle.traces.specs.Lines.{explanation_line, line_most}
 use borrow.Author.Rules.{rules}
 use Rattle.traces.proofs.text.put_explanation.Goals as goal
 
-pub returns-in-Refused-clause-line_after : goal.returns-in-Refused-clause-line_after
+pub returns-in-Refused : goal.returns-in-Refused
 unfolding explanation_line
-returns-in-Refused-clause-line_after c = rw c.in-Refused.is (whole (at_most line_most (omega arith) (short (c.put_refusal.ensures.buf_after, c.put_refusal.ensures.r_len_bound))) (search rules)).0
+returns-in-Refused c = let both = whole (at_most line_most (omega arith) (short (c.put_refusal.ensures.buf_after, c.put_refusal.ensures.r_len_bound))) (search rules) in record { line_after = rw c.in-Refused.is both.0; within = both.1 }
 
-pub returns-in-Refused-clause-within : goal.returns-in-Refused-clause-within
+pub returns-in-LoggedAfter : goal.returns-in-LoggedAfter
 unfolding explanation_line
-returns-in-Refused-clause-within c = (whole (at_most line_most (omega arith) (short (c.put_refusal.ensures.buf_after, c.put_refusal.ensures.r_len_bound))) (search rules)).1
+returns-in-LoggedAfter c = let both = whole (at_most line_most (omega arith) (one c.put.ensures)) (search rules) in record { line_after = rw c.in-LoggedAfter.is both.0; within = both.1 }
 
-pub returns-in-LoggedAfter-clause-line_after : goal.returns-in-LoggedAfter-clause-line_after
+pub returns-in-WrongType : goal.returns-in-WrongType
 unfolding explanation_line
-returns-in-LoggedAfter-clause-line_after c = rw c.in-LoggedAfter.is (whole (at_most line_most (omega arith) (one c.put.ensures)) (search rules)).0
+returns-in-WrongType c = let both = whole (at_most line_most (omega arith) (one c.put-in-WrongType.ensures)) (search rules) in record { line_after = rw c.in-WrongType.is both.0; within = both.1 }
 
-pub returns-in-LoggedAfter-clause-within : goal.returns-in-LoggedAfter-clause-within
+pub returns-in-Unmet : goal.returns-in-Unmet
 unfolding explanation_line
-returns-in-LoggedAfter-clause-within c = (whole (at_most line_most (omega arith) (one c.put.ensures)) (search rules)).1
+returns-in-Unmet c = let both = whole (at_most line_most (omega arith) c.put_line.ensures) (search rules) in record { line_after = rw c.in-Unmet.is both.0; within = both.1 }
 
-pub returns-in-WrongType-clause-line_after : goal.returns-in-WrongType-clause-line_after
+pub returns-in-LimitReached : goal.returns-in-LimitReached
 unfolding explanation_line
-returns-in-WrongType-clause-line_after c = rw c.in-WrongType.is (whole (at_most line_most (omega arith) (one c.put-in-WrongType.ensures)) (search rules)).0
+returns-in-LimitReached c = let both = whole (at_most line_most (omega arith) (one c.put-in-LimitReached.ensures)) (search rules) in record { line_after = rw c.in-LimitReached.is both.0; within = both.1 }
 
-pub returns-in-WrongType-clause-within : goal.returns-in-WrongType-clause-within
+pub returns-in-Reported : goal.returns-in-Reported
 unfolding explanation_line
-returns-in-WrongType-clause-within c = (whole (at_most line_most (omega arith) (one c.put-in-WrongType.ensures)) (search rules)).1
-
-pub returns-in-Unmet-clause-line_after : goal.returns-in-Unmet-clause-line_after
-unfolding explanation_line
-returns-in-Unmet-clause-line_after c = rw c.in-Unmet.is (whole (at_most line_most (omega arith) c.put_line.ensures) (search rules)).0
-
-pub returns-in-Unmet-clause-within : goal.returns-in-Unmet-clause-within
-unfolding explanation_line
-returns-in-Unmet-clause-within c = (whole (at_most line_most (omega arith) c.put_line.ensures) (search rules)).1
-
-pub returns-in-LimitReached-clause-line_after : goal.returns-in-LimitReached-clause-line_after
-unfolding explanation_line
-returns-in-LimitReached-clause-line_after c = rw c.in-LimitReached.is (whole (at_most line_most (omega arith) (one c.put-in-LimitReached.ensures)) (search rules)).0
-
-pub returns-in-LimitReached-clause-within : goal.returns-in-LimitReached-clause-within
-unfolding explanation_line
-returns-in-LimitReached-clause-within c = (whole (at_most line_most (omega arith) (one c.put-in-LimitReached.ensures)) (search rules)).1
-
-pub returns-in-Reported-clause-line_after : goal.returns-in-Reported-clause-line_after
-unfolding explanation_line
-returns-in-Reported-clause-line_after c = rw c.in-Reported.is (whole (at_most line_most (omega arith) (one c.put-in-Reported.ensures)) (search rules)).0
-
-pub returns-in-Reported-clause-within : goal.returns-in-Reported-clause-within
-unfolding explanation_line
-returns-in-Reported-clause-within c = (whole (at_most line_most (omega arith) (one c.put-in-Reported.ensures)) (search rules)).1
+returns-in-Reported c = let both = whole (at_most line_most (omega arith) (one c.put-in-Reported.ensures)) (search rules) in record { line_after = rw c.in-Reported.is both.0; within = both.1 }
