@@ -1,4 +1,5 @@
--- A choice by a test. It is shut, so that a proof sees each call of it as it is written.
+-- A choice by a test, beside the library's `if b then x else y`, which is open: this one is shut, so that a proof sees each call of it
+-- as it is written.
 -- Assumes nothing.
 use Rattle.std.specs.Prelude.{Bool, true, false}
 

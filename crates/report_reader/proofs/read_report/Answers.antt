@@ -9,18 +9,18 @@ use Rattle.report_reader.proofs.read_report.Goals as goal
 
 pub returns-then-not-is_form : goal.returns-then-not-is_form
 unfolding read_report when◌then◌else◌
-returns-then-not-is_form c = rw (← c.is_form.ensures, c.if-not-is_form.true-raw) c.refused_report.ensures
+returns-then-not-is_form c = rw (← c.is_form.ensures, c.if-not-is_form.true) c.refused_report.ensures
 
 pub returns-then-is_group : goal.returns-then-is_group
 unfolding read_report when◌then◌else◌
-returns-then-is_group c = rw (← c.is_form.ensures, c.if-not-is_form.false-raw, ← c.is_group.ensures, c.if-is_group.true) c.refused_report-then-is_group.ensures
+returns-then-is_group c = rw (← c.is_form.ensures, c.if-not-is_form.false, ← c.is_group.ensures, c.if-is_group.true) c.refused_report-then-is_group.ensures
 
 pub returns-then-cause-ne0 : goal.returns-then-cause-ne0
 unfolding read_report when◌then◌else◌
 returns-then-cause-ne0 c = let kind = c.frame_kind-kind.ensures ∙ ap (frame_kind _) c.report_action.ensures in
-    rw (← c.is_form.ensures, c.if-not-is_form.false-raw, ← c.is_group.ensures, c.if-is_group.false, ← kind, ← c.report_action-2.ensures, ← c.frame_cause-cause.ensures, ne_eqb _ _ c.if-cause-ne0.true) c.refused_report-then-cause-ne0.ensures
+    rw (← c.is_form.ensures, c.if-not-is_form.false, ← c.is_group.ensures, c.if-is_group.false, ← kind, ← c.report_action-2.ensures, ← c.frame_cause-cause.ensures, ne_eqb _ _ c.if-cause-ne0.true) c.refused_report-then-cause-ne0.ensures
 
 pub returns : goal.returns
 unfolding read_report when◌then◌else◌
 returns c = let kind = c.frame_kind-kind.ensures ∙ ap (frame_kind _) c.report_action.ensures in
-    rw (← c.is_form.ensures, c.if-not-is_form.false-raw, ← c.is_group.ensures, c.if-is_group.false, ← kind, ← c.report_action-2.ensures, ← c.frame_cause-cause.ensures, eq-eqb _ _ c.if-cause-ne0.false) c.validated.ensures
+    rw (← c.is_form.ensures, c.if-not-is_form.false, ← c.is_group.ensures, c.if-is_group.false, ← kind, ← c.report_action-2.ensures, ← c.frame_cause-cause.ensures, eq-eqb _ _ c.if-cause-ne0.false) c.validated.ensures

@@ -10,8 +10,8 @@ returns-then-not-v c = rw c.if-not-v.true
 
 pub returns-then-not-good_time_at : goal.returns-then-not-good_time_at
 unfolding timed_verdict when◌then◌else◌
-returns-then-not-good_time_at c = rw (c.if-not-v.false, ← c.good_time_at.ensures, c.if-not-good_time_at.true-raw) c.refused.ensures
+returns-then-not-good_time_at c = rw (c.if-not-v.false, ← c.good_time_at.ensures, c.if-not-good_time_at.true) c.refused.ensures
 
 pub returns : goal.returns
 unfolding timed_verdict when◌then◌else◌
-returns c = rw (c.if-not-v.false, ← c.good_time_at.ensures, c.if-not-good_time_at.false-raw)
+returns c = rw (c.if-not-v.false, ← c.good_time_at.ensures, c.if-not-good_time_at.false)

@@ -2,7 +2,6 @@
 -- Assumes nothing.
 use mathlib.Core.Path.{◌≡◌}
 use native.Mathlib.Omega.{arith}
-use borrow.Author.Tests.{not-true, not-false}
 use Rattle.laws.specs.Choice.{when◌then◌else◌}
 use Rattle.request_writer.specs.Frames.{condition_length}
 use Rattle.request_writer.proofs.ConditionsBack.{length-within}
@@ -10,10 +9,10 @@ use Rattle.request_writer.proofs.condition_length.Goals as goal
 
 pub returns-then-not-c : goal.returns-then-not-c
 unfolding condition_length when◌then◌else◌
-returns-then-not-c c = (rw (not-true c.args.c.present c.if-not-c.true-raw), omega arith)
+returns-then-not-c c = (rw c.if-not-c.true, omega arith)
 
 pub returns : goal.returns
 unfolding condition_length when◌then◌else◌
 returns c = let a = c.args in
-    let e : c.length_of.result ≡ condition_length a.ty a.id a.c = rw (not-false a.c.present c.if-not-c.false-raw) c.length_of.ensures in
+    let e : c.length_of.result ≡ condition_length a.ty a.id a.c = rw c.if-not-c.false c.length_of.ensures in
     (e, omega (arith, e, length-within a.ty a.id a.c))

@@ -6,8 +6,8 @@ use Rattle.octets.proofs.times.good_date.Goals as goal
 
 pub returns-then-not-in_range : goal.returns-then-not-in_range
 unfolding good_date when◌then◌else◌
-returns-then-not-in_range c = rw (← c.in_range.ensures, c.if-not-in_range.true-raw)
+returns-then-not-in_range c = rw (← c.in_range.ensures, c.if-not-in_range.true)
 
 pub returns : goal.returns
 unfolding good_date when◌then◌else◌
-returns c = rw (← c.in_range.ensures, c.if-not-in_range.false-raw) c.in_range-2.ensures
+returns c = rw (← c.in_range.ensures, c.if-not-in_range.false) c.in_range-2.ensures

@@ -6,12 +6,12 @@ use Rattle.octets.proofs.times.good_time.Goals as goal
 
 pub returns-then-not-in_range : goal.returns-then-not-in_range
 unfolding good_time when◌then◌else◌
-returns-then-not-in_range c = rw (← c.pair.ensures, ← c.in_range.ensures, c.if-not-in_range.true-raw)
+returns-then-not-in_range c = rw (← c.pair.ensures, ← c.in_range.ensures, c.if-not-in_range.true)
 
 pub returns-then-not-good_clock : goal.returns-then-not-good_clock
 unfolding good_time when◌then◌else◌
-returns-then-not-good_clock c = rw (← c.pair.ensures, ← c.in_range.ensures, c.if-not-in_range.false-raw, ← c.good_clock.ensures, c.if-not-good_clock.true-raw)
+returns-then-not-good_clock c = rw (← c.pair.ensures, ← c.in_range.ensures, c.if-not-in_range.false, ← c.good_clock.ensures, c.if-not-good_clock.true)
 
 pub returns : goal.returns
 unfolding good_time when◌then◌else◌
-returns c = rw (← c.pair.ensures, ← c.in_range.ensures, c.if-not-in_range.false-raw, ← c.good_clock.ensures, c.if-not-good_clock.false-raw) c.good_date.ensures
+returns c = rw (← c.pair.ensures, ← c.in_range.ensures, c.if-not-in_range.false, ← c.good_clock.ensures, c.if-not-good_clock.false) c.good_date.ensures

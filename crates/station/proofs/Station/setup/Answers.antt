@@ -2,7 +2,6 @@
 -- Assumes nothing.
 use mathlib.Core.Path.{sym, ap, ◌∙◌}
 use mathlib.Core.List.{[]}
-use borrow.Author.Tests.{not-true, not-false}
 use Rattle.octets.specs.Refusals.{bad_requester_list, bad_identity}
 use Rattle.identities.proofs.Laws.{identity_most}
 use Rattle.model.specs.Model.{Station, accepted}
@@ -20,15 +19,15 @@ returns-then-bad_list-clause-leaves c = let a = c.args in refused_leaves _ _ _ _
 
 pub returns-then-not-good_identity-clause-result_value : goal.returns-then-not-good_identity-clause-result_value
 returns-then-not-good_identity-clause-result_value c = let a = c.args in c.refused_with-then-not-good_identity.ensures [] ∙ ap (λ (g : Station). result g (refused_for bad_identity) []) c.nobody-then-not-good_identity.ensures
-    ∙ setup-bad_identity a.identity.now a.list.now (sym c.bad_list.ensures ∙ c.if-bad_list.false) (sym c.good_identity.ensures ∙ not-true _ c.if-not-good_identity.true-raw)
+    ∙ setup-bad_identity a.identity.now a.list.now (sym c.bad_list.ensures ∙ c.if-bad_list.false) (sym c.good_identity.ensures ∙ c.if-not-good_identity.true)
 
 pub returns-then-not-good_identity-clause-leaves : goal.returns-then-not-good_identity-clause-leaves
 returns-then-not-good_identity-clause-leaves c = let a = c.args in refused_leaves _ _ _ _ (c.refused_with-then-not-good_identity.ensures [])
 
 pub setup_station-requires : goal.setup_station-requires
-setup_station-requires c = identity_most _ (sym c.good_identity.ensures ∙ not-false _ c.if-not-good_identity.false-raw)
+setup_station-requires c = identity_most _ (sym c.good_identity.ensures ∙ c.if-not-good_identity.false)
 
 pub returns-clause-result_value : goal.returns-clause-result_value
-returns-clause-result_value c = let a = c.args in let list = sym c.bad_list.ensures ∙ c.if-bad_list.false in let octets = sym c.good_identity.ensures ∙ not-false _ c.if-not-good_identity.false-raw in let is = c.accepted_with.ensures ∙ ap accepted_outcome c.setup_station.ensures in accepted-view _ _ is
+returns-clause-result_value c = let a = c.args in let list = sym c.bad_list.ensures ∙ c.if-bad_list.false in let octets = sym c.good_identity.ensures ∙ c.if-not-good_identity.false in let is = c.accepted_with.ensures ∙ ap accepted_outcome c.setup_station.ensures in accepted-view _ _ is
     ∙ ap (λ (g : Station). result g accepted []) (view-setup a.identity.now a.list.now (identity_some _ octets) (good_length _ list))
     ∙ setup-good a.identity.now a.list.now list octets

@@ -10,8 +10,8 @@ returns-then-is_group c = rw (← c.is_group.ensures, c.if-is_group.true) c.new.
 
 pub returns-then-not-found : goal.returns-then-not-found
 unfolding frame_refusal when◌then◌else◌
-returns-then-not-found c = rw (← c.is_group.ensures, c.if-is_group.false, c.if-not-found.true-raw) c.new-then-not-found.ensures
+returns-then-not-found c = rw (← c.is_group.ensures, c.if-is_group.false, c.if-not-found.true) c.new-then-not-found.ensures
 
 pub returns : goal.returns
 unfolding frame_refusal when◌then◌else◌
-returns c = rw (← c.is_group.ensures, c.if-is_group.false, c.if-not-found.false-raw)
+returns c = rw (← c.is_group.ensures, c.if-is_group.false, c.if-not-found.false)
