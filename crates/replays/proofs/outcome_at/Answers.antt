@@ -2,6 +2,7 @@
 -- Assumes nothing.
 use mathlib.Core.Path.{refl}
 use mathlib.Core.List.{[]}
+use native.Mathlib.Omega.{arith}
 use borrow.Author.Tests.{ne_eqb}
 use Rattle.laws.specs.Choice.{when◌then◌else◌}
 use Rattle.replays.specs.Replay.{station_after}
@@ -46,5 +47,5 @@ returns-in-8 c = rw (← c.octet.ensures, c.in-8.is) (leaves _ _ [] _ refl c.log
 
 pub returns-in_default : goal.returns-in_default
 unfolding station_after when◌then◌else◌
-returns-in_default c = let r = c.in_default.in_default-own.rest in
-    rw (← c.octet.ensures, ne_eqb _ 0 r.0.0.0.0.0.0.0.0.1, ne_eqb _ 1 r.0.0.0.0.0.0.0.1, ne_eqb _ 2 r.0.0.0.0.0.0.1, ne_eqb _ 3 r.0.0.0.0.0.1, ne_eqb _ 4 r.0.0.0.0.1, ne_eqb _ 5 r.0.0.0.1, ne_eqb _ 6 r.0.0.1, ne_eqb _ 7 r.0.1, ne_eqb _ 8 r.1)
+returns-in_default c = let n = c.octet.result in
+    rw (← c.octet.ensures, ne_eqb n 0 (omega arith), ne_eqb n 1 (omega arith), ne_eqb n 2 (omega arith), ne_eqb n 3 (omega arith), ne_eqb n 4 (omega arith), ne_eqb n 5 (omega arith), ne_eqb n 6 (omega arith), ne_eqb n 7 (omega arith), ne_eqb n 8 (omega arith))

@@ -1,5 +1,6 @@
 -- `report_listing::put_event` meets its contract: by the type number.
 -- Assumes nothing.
+use native.Mathlib.Omega.{arith}
 use borrow.Author.Tests.{ne_eqb}
 use Rattle.laws.specs.Choice.{when◌then◌else◌}
 use Rattle.report_reader.specs.Decoders.{decoded}
@@ -16,4 +17,4 @@ returns-in-1 c = rw (c.in-1.is, ← c.rsna_in.ensures) c.put_rsna.ensures
 
 pub returns-in-2-to-255 : goal.returns-in-2-to-255
 unfolding decoded event_text when◌then◌else◌
-returns-in-2-to-255 c = rw (ne_eqb _ 0 c.in-2-to-255.in-2-to-255-own.rest.0.1, ne_eqb _ 1 c.in-2-to-255.in-2-to-255-own.rest.1, ← c.peer_link_in.ensures) c.put_peer_link.ensures
+returns-in-2-to-255 c = rw (ne_eqb c.args.ty 0 (omega arith), ne_eqb c.args.ty 1 (omega arith), ← c.peer_link_in.ensures) c.put_peer_link.ensures

@@ -3,6 +3,7 @@
 use Prim.Native.Nat.{ℕ, ◌+◌}
 use mathlib.Core.Path.{ap, ◌∙◌}
 use lib.ListN.{get_or}
+use native.Mathlib.Omega.{arith}
 use borrow.Author.Tests.{ne_eqb}
 use Rattle.laws.specs.Choice.{when◌then◌else◌}
 use Rattle.events.specs.RsnaEvents.{method_offset}
@@ -21,4 +22,4 @@ returns-in-1 c = let a = c.args in
 
 pub returns-in-2-to-255 : goal.returns-in-2-to-255
 unfolding is_event_length when◌then◌else◌
-returns-in-2-to-255 c = rw (ne_eqb _ 0 c.in-2-to-255.in-2-to-255-own.rest.0.1, ne_eqb _ 1 c.in-2-to-255.in-2-to-255-own.rest.1, ← c.time_length-time.ensures.0)
+returns-in-2-to-255 c = rw (ne_eqb c.args.ty 0 (omega arith), ne_eqb c.args.ty 1 (omega arith), ← c.time_length-time.ensures.0)

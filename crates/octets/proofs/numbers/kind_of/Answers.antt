@@ -1,5 +1,6 @@
 -- `octets::numbers::kind_of` meets its contract.
 -- Assumes nothing.
+use native.Mathlib.Omega.{arith}
 use borrow.Author.Tests.{ne_eqb}
 use Rattle.laws.specs.Choice.{when◌then◌else◌}
 use Rattle.octets.proofs.numbers.kind_of.Goals as goal
@@ -10,4 +11,4 @@ returns-in-0 c = rw c.in-0.is
 
 pub returns-in-1-to-255 : goal.returns-in-1-to-255
 unfolding when◌then◌else◌
-returns-in-1-to-255 c = rw (ne_eqb _ 0 c.in-1-to-255.in-1-to-255-own.rest.1)
+returns-in-1-to-255 c = rw (ne_eqb c.args.number 0 (omega arith))

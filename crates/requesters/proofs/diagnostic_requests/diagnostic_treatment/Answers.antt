@@ -1,5 +1,6 @@
 -- `requesters::diagnostic_requests::diagnostic_treatment` meets its contract.
 -- Assumes nothing.
+use native.Mathlib.Omega.{arith}
 use borrow.Author.Tests.{ne_eqb}
 use Rattle.laws.specs.Choice.{when◌then◌else◌}
 use Rattle.model.specs.Diagnostics.{diagnostic_treatment}
@@ -15,4 +16,4 @@ returns-in-1 c = rw c.in-1.is
 
 pub returns-in-2-to-255 : goal.returns-in-2-to-255
 unfolding diagnostic_treatment when◌then◌else◌
-returns-in-2-to-255 c = rw (ne_eqb _ 0 c.in-2-to-255.in-2-to-255-own.rest.0.1, ne_eqb _ 1 c.in-2-to-255.in-2-to-255-own.rest.1)
+returns-in-2-to-255 c = rw (ne_eqb c.args.ty 0 (omega arith), ne_eqb c.args.ty 1 (omega arith))

@@ -1,5 +1,6 @@
 -- `traces::places::fields_end` meets its contract: the number of the record picks its fields.
 -- Assumes nothing.
+use native.Mathlib.Omega.{arith}
 use borrow.Author.Tests.{ne_eqb}
 use Rattle.laws.specs.Choice.{when◌then◌else◌}
 use Rattle.traces.specs.Records.{fields_end}
@@ -55,5 +56,5 @@ returns-in-18 c = rw (c.in-18.is, ← c.octets_end-in-18.ensures) c.behind-in-18
 
 pub returns-in_default : goal.returns-in_default
 unfolding fields_end when◌then◌else◌
-returns-in_default c = let r = c.in_default.in_default-own.rest in
-    rw (ne_eqb _ 0 r.0.0.0.0.0.0.0.0.0.0.0.1, ne_eqb _ 1 r.0.0.0.0.0.0.0.0.0.0.1, ne_eqb _ 2 r.0.0.0.0.0.0.0.0.0.1, ne_eqb _ 3 r.0.0.0.0.0.0.0.0.1, ne_eqb _ 4 r.0.0.0.0.0.0.0.1, ne_eqb _ 5 r.0.0.0.0.0.0.1, ne_eqb _ 6 r.0.0.0.0.0.1, ne_eqb _ 7 r.0.0.0.0.1, ne_eqb _ 8 r.0.0.0.1, ne_eqb _ 16 r.0.0.1, ne_eqb _ 17 r.0.1, ne_eqb _ 18 r.1)
+returns-in_default c = let n = c.args.number in
+    rw (ne_eqb n 0 (omega arith), ne_eqb n 1 (omega arith), ne_eqb n 2 (omega arith), ne_eqb n 3 (omega arith), ne_eqb n 4 (omega arith), ne_eqb n 5 (omega arith), ne_eqb n 6 (omega arith), ne_eqb n 7 (omega arith), ne_eqb n 8 (omega arith), ne_eqb n 16 (omega arith), ne_eqb n 17 (omega arith), ne_eqb n 18 (omega arith))
