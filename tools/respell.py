@@ -17,8 +17,6 @@ SIGNATURE = re.compile(
     r"\s*(?:(?:abbrev|unfoldable|pub|data|record|ghost)\s+)*([^\s(){}.,;:=]+)"
     r"(?:\s+\{[^}]*\})*(?:\s+\([^)]*\))*\s*:(?!:)"
 )
-# one name of antt
-NAME = r"(?<![\w'◌-]){}(?![\w'◌]|-[\w])"
 TOKEN = re.compile(r"[A-Za-z_][\w']*(?:[·-][\w']+)*")
 # words of the library that are names for the dash
 LIBRARY = set(
