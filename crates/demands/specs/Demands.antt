@@ -8,7 +8,7 @@ use Rattle.laws.specs.Members.{All}
 use Rattle.units.specs.Time.{turn, elapsed_top, elapsed_since}
 use Rattle.octets.specs.declared.numbers.Kind.{Kind}
 use Rattle.octets.specs.declared.numbers.Kind.TheVariants.{Event, Diagnostic}
-use Rattle.octets.specs.declared.refusals.Refusal.{Refusal}
+use Rattle.octets.specs.Refusals.{Refusal}
 use Rattle.octets.specs.Addresses.{same}
 use Rattle.requests.specs.Requests.{read_request}
 use Rattle.model.specs.Clocks.{counter_clock, elapsed_clock}

@@ -1,6 +1,7 @@
 // The three demands, stated in specs/ and proved in proofs/: of the model, and of the code for every
 // chain of calls that the station's contracts allow. The functions here are the links of such a
-// chain: each makes one call, and its contract is the chain's.
+// chain: each makes one call, and its contract is the chain's. One a method: each holds its own method's
+// contract against the chain, which a function over a closure would not.
 #![tactic(auto)]
 
 ghost use Rattle.std.specs.Prelude.{[]};

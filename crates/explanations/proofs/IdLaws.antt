@@ -19,8 +19,7 @@ use Rattle.laws.proofs.Walk.{keeps_while, and_first, and_second}
 use Rattle.octets.specs.Elements.{piece_end}
 use Rattle.octets.specs.Refusals.{no_refusal, bad_subelement, repeated_subelement}
 use Rattle.subelements.specs.declared.Condition.{Condition}
-use Rattle.subelements.specs.declared.Subelements.{Subelements}
-use Rattle.subelements.specs.Subelements.{length_of, body_at, no_filter, past_filter, walked, refused_walk, past, whole_step, subelement_step, more_subelements, walk}
+use Rattle.subelements.specs.Subelements.{length_of, body_at, no_filter, past_filter, walked, refused_walk, past, whole_step, subelement_step, more_subelements, walk, Subelements}
 use Rattle.subelements.proofs.Tables.{known_id}
 use Rattle.explanations.specs.Explanations.{own_id, condition_ids}
 

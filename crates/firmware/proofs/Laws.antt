@@ -1,49 +1,20 @@
--- Laws of arrays that are made place by place, and of the request writer.
+-- A law of arrays that are made place by place.
 -- Assumes nothing.
-use Prim.Native.Nat.{ℕ, zero, suc, ◌+◌}
-use mathlib.Core.Path.{◌≡◌, refl, sym, ap, ◌∙◌}
-use mathlib.Core.Bool.{Bool, true, false}
-use mathlib.Core.List.{List, [], ◌∷◌, map}
-use lib.Dec.{ltb}
-use lib.ListN.{length, get_or, take, drop, drop_of_length-le}
-use lib.Seq.{drop-cons, take_all}
-use native.Mathlib.Numerals.{add-one}
-use native.Mathlib.Omega.{arith}
-use borrow.Author.Tests.{ltb-true}
-use Rattle.requests.specs.Elements.{element_capacity}
-use Rattle.laws.specs.Choice.{when◌then◌else◌}
-use Rattle.octets.specs.declared.numbers.Kind.{Kind}
-use Rattle.requests.specs.declared.Element.{Element}
-use Rattle.request_writer.specs.Writer.{elements_answer, write_answer, write_octets, write_request}
+use Rattle.std.proofs.Common.{◌≡◌, ℕ, zero, suc, ◌<◌, List, [], ◌∷◌, map, length, get_or, refl, ap₂, arith}
 use Rattle.firmware.specs.declared.RequestElement.{RequestElement}
+use Rattle.requests.specs.declared.Element.{Element}
 
-module _ {A B : Type 0} (f : A → B) (l : List A) (d : A) where
-  -- what f makes of n places from the i-th on
-  unfoldable pub places : ℕ → ℕ → List B
-  places zero i = []
-  places (suc n) i = f (get_or l i d) ∷ places n (i + 1)
+-- what stands past the elements' end: the defaults that the logic reads there
+abbrev pub past_given : RequestElement
+past_given = record { token = 0; ty = 0; timeout = 0; limit = 0; filter = [] }
 
-  pub places_mapped : (n i : ℕ) → i + n ≡ length l → places n i ≡ map f (drop i l)
-  unfolding places
-  places_mapped zero i e = sym (ap (map f) (drop_of_length-le l {i = i} (omega arith)))
-  places_mapped (suc n) i e = rw (places_mapped n (i + 1) (omega arith), drop-cons l i d (omega arith), add-one)
+abbrev pub past_elements : Element
+past_elements = record { token = 0; ty = 0; timeout = 0; subs = 0; limit = 0; filter = [] }
 
--- what stands past the elements' end: the default that the logic reads there
-abbrev pub past_elements : RequestElement
-past_elements = record { token = 0; ty = 0; timeout = 0; limit = 0; filter = [] }
-
--- the writer looks at no element past the count
-module _ (kind : Kind) (dialog : ℕ) (es fs : List Element) (count : ℕ) (e : length es ≡ element_capacity) (f : length fs ≡ element_capacity) (same : take count es ≡ take count fs) where
-  answer-first : elements_answer kind es count ≡ elements_answer kind fs count
-  unfolding elements_answer when◌then◌else◌
-  answer-first = go (ltb 8 count) refl
-    where
-      go : (b : Bool) → ltb 8 count ≡ b → elements_answer kind es count ≡ elements_answer kind fs count
-      go true t =
-          let p = ltb-true 8 count t in
-          ap (λ (l : List Element). elements_answer kind l count) (sym (take_all count es (omega arith)) ∙ same ∙ take_all count fs (omega arith))
-      go false t = rw (t, same)
-
-  pub write-first : (s : List ℕ) → write_request kind dialog es count s ≡ write_request kind dialog fs count s
-  unfolding write_answer write_octets
-  write-first s = rw (answer-first, same)
+pub mapped_at : {A B : Type 0} (f : A → B) (d : A) (e : B) (xs : List A) (ys : List B) → length ys ≡ length xs
+    → ((i : ℕ) → i < length xs → get_or ys i e ≡ f (get_or xs i d)) → ys ≡ map f xs
+mapped_at f d e [] [] n h = refl
+mapped_at f d e [] (y ∷ ys) n h = absurd (omega arith)
+mapped_at f d e (x ∷ xs) [] n h = absurd (omega arith)
+mapped_at {B = B} f d e (x ∷ xs) (y ∷ ys) n h =
+    ap₂ {C = List B} (λ z zs. z ∷ zs) (h zero (omega arith)) (mapped_at f d e xs ys (omega arith) (λ i k. h (suc i) (omega arith)))

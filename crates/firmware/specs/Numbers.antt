@@ -9,14 +9,11 @@ use Rattle.station.specs.Views.{view}
 use Rattle.station.specs.declared.Station.{Station as LibraryStation}
 use Rattle.subelements.specs.declared.Condition.{Condition as SubelementsCondition}
 use Rattle.requests.specs.declared.Element.{Element as RequestsElement}
-use Rattle.request_writer.specs.declared.Written.{Written}
-use Rattle.request_writer.specs.Writer.{WriteOutcome}
-use Rattle.report_reader.specs.declared.Report.{Report as ReaderReport}
+use Rattle.request_writer.specs.Writer.{WriteOutcome, Written}
 use Rattle.report_reader.specs.declared.Element.{Element as ReaderElement}
-use Rattle.report_reader.specs.declared.Step.{Step as ReaderStep}
+use Rattle.report_reader.specs.Reader.{Step as ReaderStep, Report as ReaderReport}
 use Rattle.firmware.specs.declared.Reply.{Reply}
 use Rattle.firmware.specs.declared.Outcome.{Outcome}
-use Rattle.firmware.specs.declared.Changed.{Changed}
 use Rattle.firmware.specs.declared.Condition.{Condition}
 use Rattle.firmware.specs.declared.RequestElement.{RequestElement}
 use Rattle.firmware.specs.declared.Report.{Report}
@@ -65,11 +62,6 @@ left_with station reply buffer = record { station = view station; reply = reply;
 
 abbrev pub viewed : Outcome → List ℕ → Numbered
 viewed o buffer = left_with o.station o.reply buffer
-
--- a station with what a frame or a report call changes of it, and the reply
-abbrev pub with_changed : LibraryStation → Changed → Outcome
-with_changed g c =
-    record { station = record { timer = c.timer; identity = g.identity; length = g.length; log = g.log; requesters = c.requesters; count = g.count }; reply = c.reply }
 
 -- ---- what the request writer takes: the library's elements
 

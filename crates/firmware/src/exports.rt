@@ -1,30 +1,58 @@
-// The calls on a station, which they change in place: each is the call by value on what stands there. Of a
-// frame and a report what they change is stored alone: the compiler cannot tell that a lent buffer lies
-// outside the station, and would copy the log out and back.
-ghost use Rattle.std.specs.Prelude.{◌≡◌, []};
+// Setup, and the calls on a station, which they change in place: each is the station's method on what stands
+// there.
+ghost use Rattle.std.specs.Prelude.{◌≡◌, List, [], ℕ};
 ghost use Rattle.events.specs.Loggings.{transition, rsna, peer_link};
 ghost use Rattle.model.specs.Clocks.{elapsed_clock};
 ghost use Rattle.model.specs.Model.{standard, clock, logging, frame, report, roam, change};
-ghost use Rattle.model.specs.Stations.{step};
+ghost use Rattle.model.specs.Stations.{setup, step};
 ghost use Rattle.octets.specs.Numbers.{kind_of};
-ghost use Rattle.station.specs.Views.{view};
-ghost use Rattle.firmware.specs.Numbers.{numbered, left_with};
+ghost use Rattle.station.specs.Views.{view, view_outcome, changed_outcome};
+ghost use Rattle.firmware.specs.Numbers.{numbered, viewed, left_with};
 
-use crate::Reply;
-use crate::calls::{
-    change_network, frame, log_peer_link, log_rsna, log_transition, report, roam, tick,
-};
+use crate::{Outcome, Reply};
 use events::{PeerLink, RsnaEvent, Transition};
-use station::Station;
+use octets::kind_of;
+use station::{Changed, Station};
+use units::Milliseconds;
+
+// Leaves what a call made of a station where that stands.
+fn left(g: &mut Station, after: station::Outcome) -> Reply
+    ensures { (buffer : List ℕ) → left_with g.new result buffer ≡ numbered (view_outcome after buffer) }
+{
+    *g = after.station;
+    Reply::from(after.answer)
+}
+
+// The same of a frame and a report, of which what they change is stored alone: the compiler cannot tell that
+// a lent buffer lies outside the station, and would copy the log out and back.
+fn left_changed(g: &mut Station, after: Changed) -> Reply
+    ensures { (buffer : List ℕ) → left_with g.new result buffer ≡ numbered (view_outcome (changed_outcome g.old after) buffer) }
+{
+    let requesters = after.requesters;
+    g.timer = after.timer;
+    g.requesters = requesters;
+    Reply::from(after.answer)
+}
+
+// Names the identity and the requesters.
+#[unsafe(no_mangle)]
+pub extern "C" fn dultxibe_setup(identity: &[u8], list: &[[u8; 7]]) -> Outcome
+    ensures { viewed result [] ≡ numbered (setup standard identity.now list.now) }
+{
+    let after = Station::setup(identity, list);
+    Outcome {
+        station: after.station,
+        reply: Reply::from(after.answer),
+    }
+}
 
 // A bare clock reading.
 #[unsafe(no_mangle)]
 pub extern "C" fn dultxibe_tick(g: &mut Station, reading: u32) -> Reply
     ensures { left_with g.new result [] ≡ numbered (step elapsed_clock standard (view g.old) (clock reading)) }
 {
-    let after = tick(*g, reading);
-    *g = after.station;
-    after.reply
+    let after = (*g).tick(Milliseconds(reading));
+    left(g, after)
 }
 
 // Logs a transition, which the reading ends.
@@ -32,9 +60,8 @@ pub extern "C" fn dultxibe_tick(g: &mut Station, reading: u32) -> Reply
 pub extern "C" fn dultxibe_log_transition(g: &mut Station, reading: u32, t: Transition) -> Reply
     ensures { left_with g.new result [] ≡ numbered (step elapsed_clock standard (view g.old) (logging reading (transition t))) }
 {
-    let after = log_transition(*g, reading, t);
-    *g = after.station;
-    after.reply
+    let after = (*g).log_transition(Milliseconds(reading), t);
+    left(g, after)
 }
 
 // Logs an RSNA event, with its RSN element.
@@ -47,9 +74,8 @@ pub extern "C" fn dultxibe_log_rsna(
 ) -> Reply
     ensures { left_with g.new result [] ≡ numbered (step elapsed_clock standard (view g.old) (logging reading (rsna e rsn.now))) }
 {
-    let after = log_rsna(*g, reading, e, rsn);
-    *g = after.station;
-    after.reply
+    let after = (*g).log_rsna(Milliseconds(reading), e, rsn);
+    left(g, after)
 }
 
 // Logs a peer-to-peer link event.
@@ -57,9 +83,8 @@ pub extern "C" fn dultxibe_log_rsna(
 pub extern "C" fn dultxibe_log_peer_link(g: &mut Station, reading: u32, e: PeerLink) -> Reply
     ensures { left_with g.new result [] ≡ numbered (step elapsed_clock standard (view g.old) (logging reading (peer_link e))) }
 {
-    let after = log_peer_link(*g, reading, e);
-    *g = after.station;
-    after.reply
+    let after = (*g).log_peer_link(Milliseconds(reading), e);
+    left(g, after)
 }
 
 // A frame from a source to a destination.
@@ -73,11 +98,8 @@ pub extern "C" fn dultxibe_frame(
 ) -> Reply
     ensures { left_with g.new result [] ≡ numbered (step elapsed_clock standard (view g.old) (frame reading destination.now source.now o.now)) }
 {
-    let after = frame(*g, reading, destination, source, o);
-    let requesters = after.requesters;
-    g.timer = after.timer;
-    g.requesters = requesters;
-    after.reply
+    let after = (*g).framed(Milliseconds(reading), *destination, *source, o);
+    left_changed(g, after)
 }
 
 // A report of a kind for a requester, into a lent buffer.
@@ -91,11 +113,8 @@ pub extern "C" fn dultxibe_report(
 ) -> Reply
     ensures { left_with g.new result buf.new ≡ numbered (step elapsed_clock standard (view g.old) (report reading requester.now (kind_of kind) buf.old)) }
 {
-    let after = report(*g, reading, requester, kind, buf);
-    let requesters = after.requesters;
-    g.timer = after.timer;
-    g.requesters = requesters;
-    after.reply
+    let after = (*g).reported(Milliseconds(reading), *requester, kind_of(kind), buf);
+    left_changed(g, after)
 }
 
 // A move inside the network.
@@ -103,9 +122,8 @@ pub extern "C" fn dultxibe_report(
 pub extern "C" fn dultxibe_roam(g: &mut Station, reading: u32, list: &[[u8; 7]]) -> Reply
     ensures { left_with g.new result [] ≡ numbered (step elapsed_clock standard (view g.old) (roam reading list.now)) }
 {
-    let after = roam(*g, reading, list);
-    *g = after.station;
-    after.reply
+    let after = (*g).roam(Milliseconds(reading), list);
+    left(g, after)
 }
 
 // A network change.
@@ -113,7 +131,6 @@ pub extern "C" fn dultxibe_roam(g: &mut Station, reading: u32, list: &[[u8; 7]])
 pub extern "C" fn dultxibe_change_network(g: &mut Station, reading: u32, list: &[[u8; 7]]) -> Reply
     ensures { left_with g.new result [] ≡ numbered (step elapsed_clock standard (view g.old) (change reading list.now)) }
 {
-    let after = change_network(*g, reading, list);
-    *g = after.station;
-    after.reply
+    let after = (*g).change_network(Milliseconds(reading), list);
+    left(g, after)
 }

@@ -3,19 +3,19 @@ ghost use Rattle.std.specs.Prelude.{◌≡◌, map};
 ghost use Rattle.octets.specs.Numbers.{kind_of};
 ghost use Rattle.request_writer.specs.Writer.{write_request};
 ghost use Rattle.report_reader.specs.Decoders.{transition_in, rsna_in, peer_link_in};
-ghost use Rattle.report_reader.specs.Reader.{cursor_step, read_report};
-ghost use Rattle.firmware.specs.Numbers.{number_of, element_from, reply_written, write, numbered_write, numbered_report, numbered_step};
+ghost use Rattle.report_reader.specs.Reader.{step_given, step_read, cursor_step, report_read, read_report};
+ghost use Rattle.firmware.specs.Numbers.{number_of, element_from, write, numbered_write, numbered_report, numbered_step};
 
-use crate::elements::{elements_of, flag_number, report_element};
-use crate::{Reply, Report, Request, Step};
-use octets::{Kind, kind_of};
+use crate::elements::elements_of;
+use crate::{Reply, Report, ReportElement, Request, Step};
+use octets::{Kind, Refusal, kind_of};
 use report_reader::{
     Cursor, PeerLinkReport, RsnaReport, TransitionReport, peer_link_in, read_report, rsna_in,
     transition_in,
 };
-use request_writer::{Written, write_request};
+use request_writer::write_request;
 
-// The number of a kind.
+// The number of a kind. A function: neither `Kind` nor `u8` is of this crate, so no `From` can stand here.
 fn number_of(kind: Kind) -> u8
     ensures { result ≡ number_of kind }
 {
@@ -25,39 +25,90 @@ fn number_of(kind: Kind) -> u8
     }
 }
 
-// The numbers of the writer's answer.
-fn reply_written(w: Written) -> Reply
-    ensures { result ≡ reply_written w }
-{
-    if w.refusal.number != 0 {
-        return Reply {
-            code: 3,
-            cause: w.refusal.number,
-            place: w.refusal.place,
-            length: 0,
-        };
-    }
-    Reply {
-        code: 2,
-        cause: 0,
-        place: 0,
-        length: w.length,
-    }
-}
-
 // Writes a request frame at the front of a buffer, or nothing where it is refused.
 #[unsafe(no_mangle)]
 pub extern "C" fn dultxibe_write_request(q: Request, buf: &mut [u8]) -> Reply
     ensures { write result buf.new ≡ numbered_write (write_request (kind_of q.kind) q.dialog (map element_from q.elements) q.count buf.old) }
 {
-    let elements = q.elements;
-    reply_written(write_request(
-        kind_of(q.kind),
-        q.dialog,
-        elements_of(elements, q.count),
-        q.count,
-        buf,
-    ))
+    let elements = elements_of(q.elements);
+    Reply::from(write_request(kind_of(q.kind), q.dialog, elements, q.count, buf))
+}
+
+impl From<Result<report_reader::Report, Refusal>> for Report {
+    ghost from_gives = { λ r report. report ≡ numbered_report (report_read r) };
+
+    fn from(r: Result<report_reader::Report, Refusal>) -> Report {
+        match r {
+            Ok(report) => Report {
+                cause: 0,
+                kind: number_of(report.kind),
+                dialog: report.dialog,
+                place: 0,
+                count: report.count,
+            },
+            Err(refusal) => Report {
+                cause: refusal.cause.number(),
+                kind: 0,
+                dialog: 0,
+                place: refusal.place,
+                count: 0,
+            },
+        }
+    }
+}
+
+// What stands at a position where no element does.
+const NO_ELEMENT: ReportElement = ReportElement {
+    token: 0,
+    ty: 0,
+    status: 0,
+    logged: 0,
+    length: 0,
+    subs: 0,
+};
+
+impl From<report_reader::Step> for Step {
+    ghost from_gives = { λ t step. step ≡ numbered_step (step_given t.found t.next) };
+
+    fn from(step: report_reader::Step) -> Step {
+        let next = step.next.at;
+        match step.found {
+            Some(f) => Step {
+                cause: 0,
+                found: 1,
+                place: 0,
+                rest: f.rest,
+                next,
+                element: ReportElement::from(f.element),
+            },
+            None => Step {
+                cause: 0,
+                found: 0,
+                place: 0,
+                rest: 0,
+                next,
+                element: NO_ELEMENT,
+            },
+        }
+    }
+}
+
+impl From<Result<report_reader::Step, Refusal>> for Step {
+    ghost from_gives = { λ r step. step ≡ numbered_step (step_read r) };
+
+    fn from(r: Result<report_reader::Step, Refusal>) -> Step {
+        match r {
+            Ok(step) => Step::from(step),
+            Err(refusal) => Step {
+                cause: refusal.cause.number(),
+                found: 0,
+                place: refusal.place,
+                rest: 0,
+                next: 0,
+                element: NO_ELEMENT,
+            },
+        }
+    }
 }
 
 // Validates a whole report frame, told its form and given its destination.
@@ -65,15 +116,7 @@ pub extern "C" fn dultxibe_write_request(q: Request, buf: &mut [u8]) -> Reply
 pub extern "C" fn dultxibe_read_report(form: u8, destination: &[u8; 6], s: &[u8]) -> Report
     ensures { result ≡ numbered_report (read_report form destination.now s.now) }
 {
-    let report = read_report(form, *destination, s);
-    let kind = report.kind;
-    Report {
-        cause: report.refusal.number,
-        kind: number_of(kind),
-        dialog: report.dialog,
-        place: report.refusal.place,
-        count: report.count,
-    }
+    Report::from(read_report(form, *destination, s))
 }
 
 // What stands at a position of a report frame of a form and a kind; the first element stands at 3.
@@ -82,16 +125,7 @@ pub extern "C" fn dultxibe_next_element(form: u8, kind: u8, at: usize, s: &[u8])
     ensures { result ≡ numbered_step (cursor_step form s.now (kind_of kind) at) }
 {
     let cursor = Cursor { at };
-    let step = cursor.next(form, s, kind_of(kind));
-    let element = step.element;
-    Step {
-        cause: step.refusal.number,
-        found: flag_number(step.found),
-        place: step.refusal.place,
-        rest: step.rest,
-        next: step.next.at,
-        element: report_element(element),
-    }
+    Step::from(cursor.next(form, s, kind_of(kind)))
 }
 
 // The fields of an event in a form, from the octets behind a status; the element's type says which kind it is.

@@ -3,15 +3,13 @@
 // crosses but those inside a station: a flag is a number, 0 or not.
 #![tactic(auto)]
 
-mod calls;
 mod elements;
 mod exports;
 mod frames;
+mod replies;
 
-use model::REQUESTER_CAPACITY;
-use requesters::Requester;
 use requests::ELEMENT_CAPACITY;
-use station::{Station, Timer};
+use station::Station;
 
 // An answer: code 0 accepted, 1 nothing, 2 a frame of a length, 3 refused by a cause at a place. What
 // an answer does not have is 0.
@@ -29,14 +27,6 @@ pub struct Reply {
 #[derive(Clone, Copy)]
 pub struct Outcome {
     pub station: Station,
-    pub reply: Reply,
-}
-
-// What a frame or a report call changes of a station, and the answer.
-#[derive(Clone, Copy)]
-pub struct Changed {
-    pub timer: Timer,
-    pub requesters: [Requester; REQUESTER_CAPACITY],
     pub reply: Reply,
 }
 

@@ -2,8 +2,7 @@
 -- at a place.
 -- Assumes nothing.
 use Rattle.std.specs.Prelude.{ℕ}
-use Rattle.explanations.specs.declared.Explanation.{Explanation as LibraryExplanation}
-use Rattle.explanations.specs.declared.Explanation.TheVariants.{Refused, LoggedAfter, WrongType, Unmet, LimitReached, Reported}
+use Rattle.explanations.specs.Explanations.{Explanation as LibraryExplanation, Refused, LoggedAfter, WrongType, Unmet, LimitReached, Reported}
 use Rattle.firmware_explain.specs.declared.Explanation.{Explanation}
 
 abbrev pub explained : ℕ → ℕ → ℕ → ℕ → Explanation

@@ -4,10 +4,12 @@
 
 ghost use Rattle.std.specs.Prelude.{◌≡◌};
 ghost use Rattle.units.specs.Time.{elapsed_since};
-ghost use Rattle.explanations.specs.Explanations.{explanation};
+ghost use Rattle.octets.specs.Refusals.{refusal_of};
+ghost use Rattle.explanations.specs.Explanations.{Refused, explanation, reason_given};
 ghost use Rattle.station.specs.Views.{view};
 ghost use Rattle.firmware_explain.specs.Numbers.{explained, numbered_explanation};
 
+use octets::Refusal;
 use station::Station;
 
 // Why an event is absent: reason 1 logged after acceptance, 2 wrong type, 3 a condition of an ID is not
@@ -22,39 +24,46 @@ pub struct Explanation {
     pub place: usize,
 }
 
-// A reason without anything behind it.
-fn plain_reason(reason: u8) -> Explanation
-    ensures { result ≡ explained reason 0 0 0 }
-{
-    Explanation {
-        reason,
-        condition: 0,
-        cause: 0,
-        place: 0,
+impl Explanation {
+    // A reason without anything behind it.
+    fn plain(reason: u8) -> Explanation
+        ensures { result ≡ explained reason 0 0 0 }
+    {
+        Explanation {
+            reason,
+            condition: 0,
+            cause: 0,
+            place: 0,
+        }
     }
 }
 
-// The numbers of an explanation.
-fn explanation_of(e: explanations::Explanation) -> Explanation
-    ensures { result ≡ numbered_explanation e }
-{
-    match e {
-        explanations::Explanation::Refused(refusal) => Explanation {
-            reason: 0,
-            condition: 0,
-            cause: refusal.number,
+impl From<explanations::Explanation> for Explanation {
+    ghost from_gives = { λ e numbers. numbers ≡ numbered_explanation (reason_given e) };
+
+    fn from(e: explanations::Explanation) -> Explanation {
+        match e {
+            explanations::Explanation::LoggedAfter => Explanation::plain(1),
+            explanations::Explanation::WrongType => Explanation::plain(2),
+            explanations::Explanation::Unmet(condition) => Explanation {
+                condition,
+                ..Explanation::plain(3)
+            },
+            explanations::Explanation::LimitReached => Explanation::plain(4),
+            explanations::Explanation::Reported => Explanation::plain(5),
+        }
+    }
+}
+
+impl From<Refusal> for Explanation {
+    ghost from_gives = { λ r numbers. numbers ≡ numbered_explanation (Refused (refusal_of r)) };
+
+    fn from(refusal: Refusal) -> Explanation {
+        Explanation {
+            cause: refusal.cause.number(),
             place: refusal.place,
-        },
-        explanations::Explanation::LoggedAfter => plain_reason(1),
-        explanations::Explanation::WrongType => plain_reason(2),
-        explanations::Explanation::Unmet(condition) => Explanation {
-            reason: 3,
-            condition,
-            cause: 0,
-            place: 0,
-        },
-        explanations::Explanation::LimitReached => plain_reason(4),
-        explanations::Explanation::Reported => plain_reason(5),
+            ..Explanation::plain(0)
+        }
     }
 }
 
@@ -68,5 +77,8 @@ pub extern "C" fn dultxibe_explain(
 ) -> Explanation
     ensures { result ≡ numbered_explanation (explanation elapsed_since (view g).log element.now count position) }
 {
-    explanation_of(g.explain(element, count, position))
+    match g.explain(element, count, position) {
+        Ok(reason) => Explanation::from(reason),
+        Err(refusal) => Explanation::from(refusal),
+    }
 }

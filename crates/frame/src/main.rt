@@ -2,13 +2,11 @@
 #![tactic(auto)]
 
 use request_listing::{LISTING, list_frame};
-use stdio::{read_full, write_all};
+use stdio::{print, read_full};
 
 fn main(rt: HostRuntime) {
     // One octet more than the longest frame has, so that a longer input is seen to be longer.
     let mut frame = [0u8; 2305];
     let n = read_full(&rt, &mut frame);
-    let mut text = [0u8; LISTING];
-    let length = list_frame(&frame[..n], &mut text);
-    write_all(&rt, &text[..length]);
+    print(&rt, [0u8; LISTING], |text| list_frame(&frame[..n], text));
 }

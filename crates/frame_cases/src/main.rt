@@ -3,12 +3,10 @@
 #![tactic(auto)]
 
 use request_listing::{LISTING, list_frame};
-use stdio::write_all;
+use stdio::print;
 
 fn show(rt: &HostRuntime, frame: &[u8]) {
-    let mut text = [0u8; LISTING];
-    let length = list_frame(frame, &mut text);
-    write_all(rt, &text[..length]);
+    print(rt, [0u8; LISTING], |text| list_frame(frame, text));
 }
 
 // Refused by the frame's length and header.

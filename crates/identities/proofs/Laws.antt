@@ -12,8 +12,7 @@ use borrow.Author.Tests.{ltb-false}
 use Rattle.laws.specs.Choice.{when◌then◌else◌}
 use Rattle.laws.proofs.Choice.{either, never}
 use Rattle.identities.specs.declared.Row.{Row}
-use Rattle.identities.specs.declared.Walk.{Walk}
-use Rattle.identities.specs.Identity.{rows, past_row, pass_row, good_from, good_identity}
+use Rattle.identities.specs.Identity.{Walk, rows, past_row, pass_row, good_from, good_identity}
 
 pub identity_most : (s : List ℕ) → good_identity s ≡ true → length s ≤ 252
 unfolding good_identity

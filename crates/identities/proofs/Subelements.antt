@@ -16,8 +16,7 @@ use Rattle.laws.proofs.Choice.{either, never}
 use Rattle.octets.specs.Elements.{framed, Subelement, subelements}
 use Rattle.octets.proofs.ElementLaws.{Ends, piece_ends}
 use Rattle.identities.specs.declared.Row.{Row}
-use Rattle.identities.specs.declared.Walk.{Walk}
-use Rattle.identities.specs.Identity.{rows, pass_row, good_from, good_identity}
+use Rattle.identities.specs.Identity.{Walk, rows, pass_row, good_from, good_identity}
 
 -- the octets from a position on are a list of subelements
 record Listed (o : List ℕ) : Type 0 where

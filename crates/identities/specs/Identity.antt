@@ -1,10 +1,9 @@
 -- Document 01: the identity (IEEE: Manufacturer Information), and cause 16.
 -- Assumes nothing.
-use Rattle.std.specs.Prelude.{ℕ, ◌+◌, Bool, true, false, not, ◌&&◌, List, [], ◌∷◌, eqb, ltb, length, get_or}
+use Rattle.std.specs.Prelude.{ℕ, ◌+◌, Bool, true, false, not, ◌&&◌, List, [], ◌∷◌, eqb, ltb, length, get_or, Option, Some, None}
 use Rattle.laws.specs.Choice.{when◌then◌else◌}
 use Rattle.octets.specs.Elements.{piece_end}
 use Rattle.identities.specs.declared.Row.{Row}
-use Rattle.identities.specs.declared.Walk.{Walk}
 
 -- a row of Table v18: a subelement's ID, whether it must stand, and the least and the most octets of its body
 abbrev pub row : ℕ → Bool → ℕ → ℕ → Row
@@ -34,6 +33,11 @@ past_row = row 0 false 0 0
 unfoldable pub stands : List ℕ → ℕ → Row → Bool
 stands s at r = ltb at (length s) && eqb (get_or s at 0) r.id
 
+-- a row's turn at a position: was it fine, and the position behind it
+pub record Walk : Type 0 where
+  pub fine : Bool
+  pub at : ℕ
+
 abbrev pub row_walked : Bool → ℕ → Walk
 row_walked fine at = record { fine = fine; at = at }
 
@@ -54,3 +58,8 @@ good_from s at (r ∷ rs) = when (pass_row s at r).fine then good_from s (pass_r
 -- "The identity is a subelement list of at most 252 octets"
 unfoldable pub good_identity : List ℕ → Bool
 good_identity s = when ltb 252 (length s) then false else good_from s 0 rows
+
+-- a row's turn at a position as code gives it: the position behind it, or none
+abbrev pub turn : ℕ → Option ℕ → Walk
+turn at None = row_walked false at
+turn at (Some next) = row_walked true next

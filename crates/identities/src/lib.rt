@@ -2,8 +2,8 @@
 // it.
 #![tactic(auto)]
 
-ghost use Rattle.std.specs.Prelude.{◌≡◌, ◌<◌, get_or};
-ghost use Rattle.identities.specs.Identity.{rows, past_row, stands as identity_stands, pass_row, good_from, good_identity};
+ghost use Rattle.std.specs.Prelude.{◌≡◌};
+ghost use Rattle.identities.specs.Identity.{rows, stands as identity_stands, turn, pass_row, good_from, good_identity};
 
 use octets::{octet, piece_end, size};
 
@@ -17,12 +17,8 @@ struct Row {
     pub most: usize,
 }
 
-// A row's turn: is it fine, and the position behind it.
-#[derive(Clone, Copy)]
-struct Walk {
-    pub fine: bool,
-    pub at: usize,
-}
+// The most octets of an identity.
+const LONGEST: usize = 252;
 
 const ROWS: [Row; 10] = [
     Row {
@@ -87,48 +83,26 @@ const ROWS: [Row; 10] = [
     },
 ];
 
-fn row_at(i: usize) -> Row
-    requires { i < 10 }
-    ensures { result ≡ get_or rows i past_row }
-{
-    ROWS[i]
-}
-
 // Does the subelement of a row stand at a position?
 fn stands(s: &[u8], at: usize, row: Row) -> bool
     ensures { result ≡ identity_stands s.now at row }
 {
-    if s.len() <= at {
-        return false;
-    }
-    octet(s, at) == row.id
+    at < s.len() && octet(s, at) == row.id
 }
 
-// One row's turn, at a position.
-fn pass_row(s: &[u8], at: usize, row: Row) -> Walk
-    ensures { result ≡ pass_row s.now at row }
+// One row's turn, at a position: the position behind it, or none where it is not fine.
+fn pass_row(s: &[u8], at: usize, row: Row) -> Option<usize>
+    ensures { turn at result ≡ pass_row s.now at row }
 {
     if !stands(s, at, row) {
-        return Walk {
-            fine: !row.must,
-            at,
-        };
+        return if row.must { None } else { Some(at) };
     }
-    let next = piece_end(s, at, s.len());
-    if next == 0 {
-        return Walk { fine: false, at };
-    }
+    let next = piece_end(s, at, s.len())?;
     let n = size(s, at + 1);
-    if n < row.least {
-        return Walk { fine: false, at };
+    if n < row.least || row.most < n {
+        return None;
     }
-    if row.most < n {
-        return Walk { fine: false, at };
-    }
-    Walk {
-        fine: true,
-        at: next,
-    }
+    Some(next)
 }
 
 // All rows in their order; behind the last one nothing is left.
@@ -136,14 +110,11 @@ fn pass_rows(s: &[u8]) -> bool
     ensures { result ≡ good_from s.now 0 rows }
 {
     let mut at: usize = 0;
-    let mut i: usize = 0;
-    while i < 10 {
-        let w = pass_row(s, at, row_at(i));
-        if !w.fine {
+    for row in &ROWS {
+        let Some(next) = pass_row(s, at, *row) else {
             return false;
-        }
-        at = w.at;
-        i += 1;
+        };
+        at = next;
     }
     at == s.len()
 }
@@ -152,8 +123,5 @@ fn pass_rows(s: &[u8]) -> bool
 pub fn good_identity(s: &[u8]) -> bool
     ensures { result ≡ good_identity s.now }
 {
-    if 252 < s.len() {
-        return false;
-    }
-    pass_rows(s)
+    s.len() <= LONGEST && pass_rows(s)
 }

@@ -8,6 +8,7 @@ use lib.ListN.{length, get_or, take, drop, drop_of_length-le}
 use lib.Seq.{drop-cons}
 use native.Mathlib.Numerals.{add-one}
 use native.Mathlib.Omega.{arith}
+use Rattle.std.specs.List.{list_any}
 use Rattle.laws.specs.Members.{any}
 
 -- `Some-of` tests a list by `one`, which may look at the elements behind the one that it tests
@@ -72,3 +73,9 @@ module _ {A : Type 0} (Some-of : List A → Bool) (one : A → Bool) (cons : (x 
       go true p later e i = absurd (let z : ◌≡◌ {A = ℕ} 0 1 = cc in omega arith)
       go false p later e zero = p
       go false p later e (suc i) = later e i
+
+-- the library's test of a list is it
+pub list_any_is : {A : Type 0} (test : A → Bool) (l : List A) → list_any test l ≡ any test l
+unfolding any
+list_any_is test [] = refl
+list_any_is test (x ∷ l) = ap (λ b. test x || b) (list_any_is test l)

@@ -19,7 +19,7 @@ use Rattle.octets.specs.declared.numbers.Kind.TheVariants.{Event, Diagnostic}
 use Rattle.octets.specs.Numbers.{successful, incapable, report_buffer}
 use Rattle.subelements.specs.Subelements.{tables}
 use Rattle.requests.specs.declared.Element.{Element}
-use Rattle.requests.specs.declared.Request.{Request}
+use Rattle.requests.specs.Requests.{Request}
 use Rattle.requests.proofs.Laws.{HasOne}
 use Rattle.events.specs.declared.Entry.{Entry}
 use Rattle.events.specs.Times.{draft}

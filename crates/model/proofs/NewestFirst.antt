@@ -23,8 +23,7 @@ use Rattle.octets.proofs.AddressLaws.{same_refl, same_true}
 use Rattle.octets.specs.Numbers.{successful, incapable, category, report_action}
 use Rattle.octets.specs.Refusals.{group_destination, unknown_requester}
 use Rattle.requests.specs.declared.Element.{Element}
-use Rattle.requests.specs.declared.Request.{Request}
-use Rattle.requests.specs.Requests.{read_request}
+use Rattle.requests.specs.Requests.{read_request, Request}
 use Rattle.events.specs.declared.Entry.{Entry}
 use Rattle.events.specs.Log.{past_log}
 use Rattle.events.specs.Choice.{last_of, all_of}

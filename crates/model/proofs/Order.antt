@@ -18,8 +18,7 @@ use Rattle.octets.specs.declared.numbers.Kind.TheVariants.{Event, Diagnostic}
 use Rattle.octets.specs.Addresses.{same, is_group}
 use Rattle.octets.specs.Refusals.{group_destination, bad_requester_list}
 use Rattle.octets.proofs.AddressLaws.{same_true, same_sym}
-use Rattle.requests.specs.declared.Request.{Request}
-use Rattle.requests.specs.Requests.{read_request}
+use Rattle.requests.specs.Requests.{read_request, Request}
 use Rattle.events.specs.declared.Entry.{Entry}
 use Rattle.model.specs.declared.Diagnostic.{Diagnostic as DiagnosticElement}
 use Rattle.model.specs.Clocks.{Timer, elapsed_at, elapsed_clock, advanced}

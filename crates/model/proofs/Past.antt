@@ -11,8 +11,7 @@ use Rattle.laws.proofs.Choice.{either}
 use Rattle.octets.specs.declared.numbers.Kind.{Kind}
 use Rattle.octets.specs.declared.numbers.Kind.TheVariants.{Event, Diagnostic}
 use Rattle.octets.specs.Addresses.{same}
-use Rattle.requests.specs.declared.Request.{Request}
-use Rattle.requests.specs.Requests.{read_request}
+use Rattle.requests.specs.Requests.{read_request, Request}
 use Rattle.events.specs.declared.Entry.{Entry}
 use Rattle.events.specs.Log.{pushed, past_log, stamp_of}
 use Rattle.events.specs.Loggings.{entry_with, entry_of}

@@ -14,9 +14,8 @@ use Rattle.laws.proofs.Members.{among_at_most, among_behind}
 use Rattle.laws.proofs.Choice.{either, never}
 use Rattle.octets.specs.declared.numbers.Kind.{Kind}
 use Rattle.octets.specs.declared.numbers.Kind.TheVariants.{Event, Diagnostic}
-use Rattle.octets.specs.declared.refusals.Refusal.{Refusal}
 use Rattle.octets.specs.Addresses.{same}
-use Rattle.octets.specs.Refusals.{no_element, group_destination, unknown_requester, short_buffer, bad_time, bad_requester_list, bad_identity, bad_report_body}
+use Rattle.octets.specs.Refusals.{no_element, group_destination, unknown_requester, short_buffer, bad_time, bad_requester_list, bad_identity, bad_report_body, Refusal}
 use Rattle.requests.specs.Requests.{request_causes, read_request}
 use Rattle.requests.proofs.Causes.{request_listed}
 use Rattle.events.specs.declared.Entry.{Entry}

@@ -20,8 +20,7 @@ use Rattle.octets.specs.Addresses.{same, is_group}
 use Rattle.octets.specs.Numbers.{report_action}
 use Rattle.octets.specs.Refusals.{bad_requester_list}
 use Rattle.requests.specs.declared.Element.{Element}
-use Rattle.requests.specs.declared.Request.{Request}
-use Rattle.requests.specs.Requests.{read_request}
+use Rattle.requests.specs.Requests.{read_request, Request}
 use Rattle.events.specs.declared.Entry.{Entry}
 use Rattle.events.specs.Log.{pushed, past_log, type_of, stamp_of}
 use Rattle.events.specs.Loggings.{LoggedEvent, entry_with, entry_of}

@@ -15,11 +15,10 @@ use Rattle.octets.specs.Addresses.{same, is_group}
 use lib.Dec.{eqb}
 use Rattle.octets.specs.Refusals.{group_destination, unknown_requester}
 use Rattle.octets.proofs.AddressLaws.{same_true}
-use Rattle.requests.specs.declared.Request.{Request}
 use Rattle.events.specs.declared.Entry.{Entry}
 use Rattle.model.specs.Clocks.{Timer, Clock, advanced}
 use Rattle.model.specs.Model.{Capacities, Address, Listed, Requester, Station, Call, clock, logging, frame, report, roam, change, accepted, Result}
-use Rattle.requests.specs.Requests.{read_request}
+use Rattle.requests.specs.Requests.{read_request, Request}
 use Rattle.events.specs.Loggings.{LoggedEvent, entry_of}
 use Rattle.events.specs.Log.{pushed}
 use Rattle.model.specs.Requesters.{bad_list, new_requester, find, put}

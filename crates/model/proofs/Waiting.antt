@@ -20,8 +20,7 @@ use Rattle.octets.specs.declared.numbers.Kind.TheVariants.{Event, Diagnostic}
 use Rattle.octets.specs.Addresses.{same}
 use Rattle.octets.specs.Refusals.{unknown_requester}
 use Rattle.octets.proofs.AddressLaws.{same_true}
-use Rattle.requests.specs.declared.Request.{Request}
-use Rattle.requests.specs.Requests.{read_request}
+use Rattle.requests.specs.Requests.{read_request, Request}
 use Rattle.requests.proofs.Laws.{request_few, request_some}
 use Rattle.events.specs.declared.Entry.{Entry}
 use Rattle.events.specs.Log.{pushed}

@@ -8,7 +8,7 @@ use Rattle.units.specs.Time.{exceeds}
 use Rattle.octets.specs.declared.numbers.Kind.TheVariants.{Diagnostic as KindDiagnostic}
 use Rattle.octets.specs.Numbers.{successful, incapable}
 use Rattle.requests.specs.declared.Element.{Element}
-use Rattle.requests.specs.declared.Request.{Request}
+use Rattle.requests.specs.Requests.{Request}
 use Rattle.model.specs.declared.Diagnostic.{Diagnostic}
 use Rattle.model.specs.declared.Treatment.{Treatment}
 use Rattle.model.specs.declared.Treatment.TheVariants.{Report, Incapable, Cancel, Identity}

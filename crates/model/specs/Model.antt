@@ -4,7 +4,7 @@ use Rattle.std.specs.Prelude.{ℕ, List, get_or}
 use Rattle.std.proofs.Math.Option.{Option}
 use Rattle.octets.specs.Addresses.{address_at}
 use Rattle.octets.specs.declared.numbers.Kind.{Kind}
-use Rattle.octets.specs.declared.refusals.Refusal.{Refusal}
+use Rattle.octets.specs.Refusals.{Refusal}
 use Rattle.requests.specs.declared.Element.{Element}
 use Rattle.events.specs.declared.Entry.{Entry}
 use Rattle.requests.specs.Elements.{element_capacity}

@@ -3,8 +3,7 @@
 -- Assumes nothing.
 use Rattle.std.specs.Prelude.{ℕ, ◌<◌, ◌≡◌, List, [], ◌∷◌}
 use Rattle.laws.specs.Members.{Among}
-use Rattle.octets.specs.declared.refusals.Refusal.{Refusal}
-use Rattle.octets.specs.Refusals.{no_element, group_destination, unknown_requester, short_buffer, bad_time, bad_requester_list, bad_identity, bad_report_body}
+use Rattle.octets.specs.Refusals.{no_element, group_destination, unknown_requester, short_buffer, bad_time, bad_requester_list, bad_identity, bad_report_body, Refusal}
 use Rattle.requests.specs.Requests.{request_causes}
 use Rattle.model.specs.Clocks.{Clock}
 use Rattle.model.specs.Model.{Capacities, Listed, Station, Call, clock, logging, frame, report, roam, change, turned_away}

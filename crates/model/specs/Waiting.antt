@@ -8,8 +8,7 @@ use Rattle.laws.specs.Members.{All}
 use Rattle.octets.specs.declared.numbers.Kind.{Kind}
 use Rattle.octets.specs.declared.numbers.Kind.TheVariants.{Event, Diagnostic}
 use Rattle.octets.specs.Addresses.{same}
-use Rattle.requests.specs.declared.Request.{Request}
-use Rattle.requests.specs.Requests.{read_request}
+use Rattle.requests.specs.Requests.{read_request, Request}
 use Rattle.model.specs.Clocks.{Clock}
 use Rattle.model.specs.Model.{Capacities, standard, Address, Listed, Station, Call, clock, logging, frame, report, roam, change, Answer, accepted, nothing, of_length, turned_away}
 use Rattle.model.specs.Outstanding.{outstanding_dialog}

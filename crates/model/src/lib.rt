@@ -17,7 +17,7 @@ pub struct Diagnostic {
 }
 
 // What a type number decides: report events, answer Incapable, cancel, or give the identity.
-#[derive(Clone, Copy)]
+#[derive(Clone, Copy, PartialEq, Eq)]
 pub enum Treatment {
     Report,
     Incapable,

@@ -7,9 +7,11 @@ use mathlib.Core.List.{List, [], ◌∷◌}
 use native.Mathlib.Numerals.{add-one}
 use native.Mathlib.Omega.{arith}
 use lib.Dec.{eqb}
+use lib.Pointwise.{pointwise}
 use lib.ListN.{length, get_or, drop, drop_of_length-le}
 use lib.Seq.{drop-cons}
 use borrow.Author.Tests.{eq-eqb, ne_eqb, eqb-true}
+use Rattle.std.proofs.Common.{nat_eq}
 use Rattle.octets.specs.Addresses.{same}
 
 -- ---- equality
@@ -70,3 +72,11 @@ module _ {n : ℕ} {a b : List ℕ} {i : ℕ} (C : Comparing n a b i) where
   unfolding same
   compare_done h =
       rw (← C.left, drop_of_length-le a {i = i} (omega (arith, C.one)), drop_of_length-le b {i = i} (omega (arith, C.other)))
+
+-- the library's equality of arrays is it
+pub same_pointwise : (a b : List ℕ) → pointwise nat_eq a b ≡ same a b
+unfolding same
+same_pointwise [] [] = refl
+same_pointwise [] (y ∷ b) = refl
+same_pointwise (x ∷ a) [] = refl
+same_pointwise (x ∷ a) (y ∷ b) = ap (◌&&◌ (eqb x y)) (same_pointwise a b)

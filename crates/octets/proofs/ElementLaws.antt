@@ -1,6 +1,6 @@
 -- Laws of elements' edges.
 -- Assumes nothing.
-use Prim.Native.Nat.{ℕ, ◌+◌, ◌≤◌}
+use Prim.Native.Nat.{ℕ, zero, suc, ◌+◌, ◌≤◌, ◌<◌}
 use mathlib.Core.Path.{◌≡◌, refl}
 use mathlib.Core.List.{List, ◌++◌}
 use lib.ListN.{length, get_or, drop}
@@ -9,7 +9,29 @@ use native.Mathlib.Omega.{arith}
 use Rattle.laws.specs.Choice.{when◌then◌else◌}
 use Rattle.laws.proofs.Choice.{either}
 use Rattle.laws.proofs.Parts.{stands_at}
-use Rattle.octets.specs.Elements.{framed, piece_end}
+use Rattle.std.proofs.Common.{Option, None, Some}
+use Rattle.octets.specs.Elements.{framed, piece_end, placed}
+
+-- ---- the place of a number
+
+pub placed_some : (n : ℕ) → 0 < n → placed n ≡ Some n
+placed_some zero h = absurd (omega arith)
+placed_some (suc n) h = refl
+
+-- there is one: it is the number, and not 0
+pub record Placed (n k : ℕ) : Type 0 where
+  pub is : k ≡ n
+  pub some : k ≡ 0 → ⊥
+
+pub at_place : {n k : ℕ} → Some k ≡ placed n → Placed n k
+at_place {n = zero} {k = k} e = cc
+at_place {n = suc n} {k = k} e = let i : k ≡ suc n = cc in record { is = i; some = λ z. omega arith }
+
+pub no_place : {n : ℕ} → ◌≡◌ {A = Option ℕ} None (placed n) → 0 ≡ n
+no_place {n = zero} e = refl
+no_place {n = suc n} e = cc
+
+-- ---- edges
 
 -- one that ends at n: its length stands behind its ID, and it does not pass the end
 pub record Ends (s : List ℕ) (at end n : ℕ) : Type 0 where

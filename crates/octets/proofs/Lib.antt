@@ -3,3 +3,4 @@ pub mod PlaceLaws
 pub mod AddressLaws
 pub mod FrameLaws
 pub mod ElementLaws
+pub mod RefusalLaws

@@ -1,6 +1,6 @@
 -- Document 01: "Elements follow: ID, length, body." Subelements have the same form.
 -- Assumes nothing.
-use Rattle.std.specs.Prelude.{ℕ, ◌+◌, List, ◌∷◌, ltb, length, get_or}
+use Rattle.std.specs.Prelude.{ℕ, zero, suc, ◌+◌, List, ◌∷◌, ltb, length, get_or, Option, None, Some}
 use Rattle.laws.specs.Choice.{when◌then◌else◌}
 use Rattle.laws.specs.Buffers.{pieces}
 
@@ -13,6 +13,11 @@ piece_end s at end =
     when ltb end (at + 2) then 0
     else when ltb end (at + 2 + get_or s (at + 1) 0) then 0
     else at + 2 + get_or s (at + 1) 0
+
+-- the place of a number that is 0 where there is none
+abbrev pub placed : ℕ → Option ℕ
+placed zero = None
+placed (suc n) = Some (suc n)
 
 -- a list of subelements, and its octets
 pub record Subelement : Type 0 where

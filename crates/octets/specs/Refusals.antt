@@ -1,7 +1,9 @@
--- Document 01, "Why a call is turned away": the number of each cause, those of document 02 behind them, and refusals. src/causes.rt has the causes under the same names.
+-- Document 01, "Why a call is turned away": the number of each cause, those of document 02 behind them, and refusals. src/refusals.rt has the causes under the same names.
 -- Assumes nothing.
-use Rattle.std.specs.Prelude.{ℕ}
-use Rattle.octets.specs.declared.refusals.Refusal.{Refusal}
+use Rattle.std.specs.Prelude.{ℕ, Result, Ok, Err}
+use Rattle.octets.specs.declared.refusals.Cause.{Cause}
+use Rattle.octets.specs.declared.refusals.Cause.TheVariants.{BadFrameLength, BadHeader, ZeroDialogToken, ElementPastEnd, ShortElement, BadElementToken, BadSubelement, RepeatedSubelement, TooManyElements, NoElement, GroupDestination, UnknownRequester, ShortBuffer, BadTime, BadRequesterList, BadIdentity, BadReportBody, NoLoggedEvent}
+use Rattle.octets.specs.declared.refusals.Refusal.{Refusal as CodeRefusal}
 
 -- "Frame under 3 or over 2,304 octets"
 abbrev pub bad_frame_length : ℕ
@@ -76,10 +78,49 @@ bad_report_body = 17
 abbrev pub no_logged_event : ℕ
 no_logged_event = 18
 
+abbrev pub cause_number : Cause → ℕ
+cause_number BadFrameLength = bad_frame_length
+cause_number BadHeader = bad_header
+cause_number ZeroDialogToken = zero_dialog_token
+cause_number ElementPastEnd = element_past_end
+cause_number ShortElement = short_element
+cause_number BadElementToken = bad_element_token
+cause_number BadSubelement = bad_subelement
+cause_number RepeatedSubelement = repeated_subelement
+cause_number TooManyElements = too_many_elements
+cause_number NoElement = no_element
+cause_number GroupDestination = group_destination
+cause_number UnknownRequester = unknown_requester
+cause_number ShortBuffer = short_buffer
+cause_number BadTime = bad_time
+cause_number BadRequesterList = bad_requester_list
+cause_number BadIdentity = bad_identity
+cause_number BadReportBody = bad_report_body
+cause_number NoLoggedEvent = no_logged_event
+
 -- a cause's number, and the place "Returned"
+pub record Refusal : Type 0 where
+  pub number : ℕ
+  pub place : ℕ
+
 abbrev pub refused : ℕ → ℕ → Refusal
 refused number place = record { number = number; place = place }
 
 -- number 0: not refused
 abbrev pub no_refusal : Refusal
 no_refusal = refused 0 0
+
+-- ---- what code gives, by these numbers
+
+abbrev pub refusal_of : CodeRefusal → Refusal
+refusal_of r = refused (cause_number r.cause) r.place
+
+-- a refusal, or none
+abbrev pub refusal_unless : {T : Type 0} → Result T CodeRefusal → Refusal
+refusal_unless (Ok x) = no_refusal
+refusal_unless (Err r) = refusal_of r
+
+-- the number of a cause, or 0
+abbrev pub number_unless : {T : Type 0} → Result T Cause → ℕ
+number_unless (Ok x) = 0
+number_unless (Err c) = cause_number c

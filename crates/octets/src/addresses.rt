@@ -1,21 +1,14 @@
 // Addresses of six octets.
 ghost use Rattle.std.specs.Prelude.{◌≡◌};
-ghost use Rattle.octets.specs.Addresses.{same, is_group, address_at};
+ghost use Rattle.octets.specs.Addresses.{same as addresses_same, is_group, address_at};
 
-use crate::fields::read_at;
+use crate::fields::array_at;
 
-// Are two addresses equal?
-pub fn same_address(a: [u8; 6], b: [u8; 6]) -> bool
-    ensures { result ≡ same a b }
+// Are two arrays of octets, as addresses are, the same?
+pub fn same<const N: usize>(a: [u8; N], b: [u8; N]) -> bool
+    ensures { result ≡ addresses_same a.entry b.entry }
 {
-    let mut i: usize = 0;
-    while i < 6 {
-        if a[i] != b[i] {
-            return false;
-        }
-        i += 1;
-    }
-    true
+    a == b
 }
 
 // Is it the address of a group?
@@ -29,7 +22,5 @@ pub fn is_group(a: [u8; 6]) -> bool
 pub fn address_at(s: &[u8], at: usize) -> [u8; 6]
     ensures { result ≡ address_at s.now at }
 {
-    let mut address = [0u8; 6];
-    read_at(s, at, &mut address);
-    address
+    array_at(s, at)
 }

@@ -5,12 +5,12 @@ ghost use Rattle.std.specs.Prelude.{◌≡◌, ◌-◌, min};
 pub fn least(a: usize, b: usize) -> usize
     ensures { result ≡ min a b }
 {
-    if a <= b { a } else { b }
+    a.min(b)
 }
 
 // One less, and not below 0.
 pub fn less_one(n: usize) -> usize
     ensures { result ≡ n - 1 }
 {
-    if 0 < n { n - 1 } else { 0 }
+    n.saturating_sub(1)
 }

@@ -3,7 +3,6 @@ ghost use Rattle.std.specs.Prelude.{◌≡◌, ◌≤◌, ◌<◌, length, get_o
 ghost use Rattle.octets.specs.Fields.{pair as fields_pair, low as fields_low, high as fields_high, pair_at, octets_at};
 
 use crate::buffers::copy;
-use crate::counts::least;
 
 // The octet at a position, 0 past the end.
 pub fn octet(s: &[u8], at: usize) -> u8
@@ -54,10 +53,8 @@ fn read_cut(s: &[u8], at: usize, out: &mut [u8])
     requires { at ≤ length s.now }
     ensures { out.new ≡ octets_at s.now at (length out.old) }
 {
-    let mut i: usize = 0;
-    while i < out.len() {
+    for i in 0..out.len() {
         out[i] = octet(s, at + i);
-        i += 1;
     }
 }
 
@@ -65,9 +62,18 @@ fn read_cut(s: &[u8], at: usize, out: &mut [u8])
 pub fn read_at(s: &[u8], at: usize, out: &mut [u8])
     ensures { out.new ≡ octets_at s.now at (length out.old) }
 {
-    let from = least(at, s.len());
+    let from = at.min(s.len());
     if s.len() - from < out.len() {
         return read_cut(s, from, out);
     }
     copy(&s[from..from + out.len()], out);
+}
+
+// They, as an array.
+pub fn array_at<const N: usize>(s: &[u8], at: usize) -> [u8; N]
+    ensures { result ≡ octets_at s.now at N }
+{
+    let mut out = [0u8; N];
+    read_at(s, at, &mut out);
+    out
 }

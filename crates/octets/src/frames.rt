@@ -1,10 +1,12 @@
 // The head of a frame: its length, category and action.
 ghost use Rattle.std.specs.Prelude.{◌≡◌};
 ghost use Rattle.octets.specs.Frames.{frame_kind, frame_cause};
+ghost use Rattle.octets.specs.Refusals.{number_unless};
 
 use crate::fields::octet;
+use crate::numbers;
 use crate::numbers::Kind;
-use crate::{causes, numbers};
+use crate::refusals::Cause;
 
 // The kind of a frame, by the action of a diagnostic's.
 pub fn frame_kind(s: &[u8], diagnostic: u8) -> Kind
@@ -16,21 +18,21 @@ pub fn frame_kind(s: &[u8], diagnostic: u8) -> Kind
     Kind::Event
 }
 
-// Why a frame that is to have an action is refused by its head; 0 where it is not.
-pub fn frame_cause(s: &[u8], action: u8) -> u8
-    ensures { result ≡ frame_cause s.now action }
+// Is a frame that is to have an action refused by its head?
+pub fn check_head(s: &[u8], action: u8) -> Result<(), Cause>
+    ensures { number_unless result ≡ frame_cause s.now action }
 {
     if s.len() < numbers::SHORTEST_FRAME {
-        return causes::BAD_FRAME_LENGTH;
+        return Err(Cause::BadFrameLength);
     }
     if numbers::LONGEST_FRAME < s.len() {
-        return causes::BAD_FRAME_LENGTH;
+        return Err(Cause::BadFrameLength);
     }
     if octet(s, 0) != numbers::CATEGORY {
-        return causes::BAD_HEADER;
+        return Err(Cause::BadHeader);
     }
     if octet(s, 1) != action {
-        return causes::BAD_HEADER;
+        return Err(Cause::BadHeader);
     }
-    0
+    Ok(())
 }

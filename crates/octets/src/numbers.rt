@@ -20,7 +20,7 @@ pub const INCAPABLE: u8 = 3;
 pub const CANCELLED: u8 = 4;
 
 // What a frame asks for or reports.
-#[derive(Clone, Copy)]
+#[derive(Clone, Copy, PartialEq, Eq)]
 pub enum Kind {
     Event,
     Diagnostic,

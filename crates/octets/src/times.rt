@@ -2,7 +2,7 @@
 ghost use Rattle.std.specs.Prelude.{◌≡◌};
 ghost use Rattle.octets.specs.Times.{in_range, good_date, good_clock, good_time, time_at};
 
-use crate::fields::{pair, read_at};
+use crate::fields::{array_at, pair};
 
 // Is a field in its range, or all ones: unknown?
 fn in_range(least: u16, most: u16, ones: u16, x: u16) -> bool
@@ -55,7 +55,5 @@ pub fn good_time(t: [u8; 9]) -> bool
 pub fn time_at(s: &[u8], at: usize) -> [u8; 9]
     ensures { result ≡ time_at s.now at }
 {
-    let mut time = [0u8; 9];
-    read_at(s, at, &mut time);
-    time
+    array_at(s, at)
 }

@@ -1,14 +1,6 @@
 -- Laws of a replay: the octets of a span, the station that a call leaves, and the loop over a trace's records.
 -- Assumes nothing.
-use Prim.Native.Nat.{ℕ, ◌-◌, ◌≤◌, ◌<◌, min}
-use mathlib.Core.Path.{◌≡◌, refl, sym, ap, ◌∙◌}
-use mathlib.Core.Bool.{Bool, true, false}
-use mathlib.Core.List.{List, []}
-use native.Mathlib.Omega.{arith}
-use lib.Dec.{leb}
-use lib.ListN.{length, take, drop, length-take, length-drop, drop_of_length-le}
-use borrow.Author.Tests.{le-leb, lt-ltb, le-ltb, leb-true, leb-false}
-use Rattle.laws.specs.Choice.{when◌then◌else◌}
+use Rattle.std.proofs.Common.{ℕ, ◌-◌, ◌≤◌, ◌<◌, min, ◌≡◌, refl, sym, ap, ◌∙◌, Bool, true, false, List, [], arith, leb, length, take, drop, length-take, length-drop, drop_of_length-le, lt-ltb, le-ltb, leb-true, leb-false}
 use Rattle.laws.proofs.Arrays.{take_min}
 use Rattle.laws.proofs.Walk.{Rest, start, done, again}
 use Rattle.model.specs.Model.{Station, Result, standard}
@@ -17,6 +9,7 @@ use Rattle.station.specs.declared.Station.{Station as CodeStation}
 use Rattle.station.specs.declared.Outcome.{Outcome}
 use Rattle.station.specs.Views.{view, view_outcome}
 use Rattle.traces.specs.Records.{record_end, whole_record}
+use Rattle.traces.proofs.WalkLaws.{record_onward}
 use Rattle.replays.specs.Replay.{Replay, replayed, station_after, replay_step, replay_trace}
 
 -- a span whose ends past the input's end count as that end
@@ -45,24 +38,19 @@ leaves r o b x is e = ap view is ∙ ap (λ (y : Result). y.station) e
 abbrev pub Replaying : List ℕ → ℕ → Station → Type 0
 Replaying s at g = Rest (λ (w : Replay). whole_record s w.at) (replay_step s) (replay_trace s) (length s - at) (replayed at g)
 
-record_past : (s : List ℕ) (at : ℕ) → length s ≤ at → record_end s at ≡ 0
-unfolding record_end when◌then◌else◌
-record_past s at h = rw (le-leb (length s) at h)
-
 module _ (s : List ℕ) where
   pub replay_start : Replaying s 0 (setup standard [] []).station
   unfolding replay_trace
   replay_start = start (λ (w : Replay). whole_record s w.at) (replay_step s) (length s) (length s - 0) (replayed 0 (setup standard [] []).station) (omega arith)
 
   module _ {at : ℕ} {g : Station} (r : Replaying s at g) where
-    -- a record that is not whole
-    pub replay_stop : (end : ℕ) → end ≡ record_end s at → end ≤ at → replayed at g ≡ replay_trace s
-    replay_stop end is h = done r (rw (← is) (le-ltb at end h))
+    -- a record that is refused, or the input's end
+    pub replay_stop : record_end s at ≡ 0 → replayed at g ≡ replay_trace s
+    replay_stop none = done r (rw none (le-ltb at 0 (omega arith)))
 
-    -- the input's end
-    pub replay_end : length s ≤ at → replayed at g ≡ replay_trace s
-    replay_end h = done r (le-ltb at (record_end s at) (omega (arith, record_past s at h)))
-
-    pub replay_next : (end : ℕ) (n : Station) → end ≡ record_end s at → at < end → at < length s → n ≡ station_after s at g → Replaying s end n
+    pub replay_next : (end : ℕ) (n : Station) → (end ≡ record_end s at) × (0 < record_end s at) → n ≡ station_after s at g → Replaying s end n
     unfolding replay_step
-    replay_next end n is h inside after = again (length s - end) r (rw (← is) (lt-ltb at end h)) (omega arith) (rw (← is, ← after))
+    replay_next end n is after =
+        let on = record_onward s at is.1 in
+        let h : at < end = omega (arith, on.1, is.0) in
+        again (length s - end) r (rw (← is.0) (lt-ltb at end h)) (omega (arith, on.0)) (rw (← is.0, ← after))

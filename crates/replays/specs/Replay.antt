@@ -5,8 +5,7 @@ use Rattle.laws.specs.Choice.{when◌then◌else◌}
 use Rattle.laws.specs.Walk.{repeat_while}
 use Rattle.units.specs.Time.{elapsed_since}
 use Rattle.events.specs.Loggings.{transition, rsna, peer_link}
-use Rattle.explanations.specs.declared.Explanation.{Explanation}
-use Rattle.explanations.specs.Explanations.{explanation}
+use Rattle.explanations.specs.Explanations.{explanation, Explanation}
 use Rattle.model.specs.Clocks.{elapsed_clock}
 use Rattle.model.specs.Model.{standard, Listed, Station, Result, Call, clock, logging, frame, report, roam, change}
 use Rattle.model.specs.Stations.{setup, step}

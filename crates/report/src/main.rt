@@ -2,13 +2,11 @@
 #![tactic(auto)]
 
 use report_listing::{LISTING, list_input};
-use stdio::{read_full, write_all};
+use stdio::{print, read_full};
 
 fn main(rt: HostRuntime) {
     // One octet more than the longest input has, so that a longer one is seen to be longer.
     let mut input = [0u8; 2312];
     let n = read_full(&rt, &mut input);
-    let mut text = [0u8; LISTING];
-    let length = list_input(&input[..n], &mut text);
-    write_all(&rt, &text[..length]);
+    print(&rt, [0u8; LISTING], |text| list_input(&input[..n], text));
 }

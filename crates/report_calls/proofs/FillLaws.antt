@@ -8,14 +8,16 @@ use mathlib.Core.List.{List, [], ◌∷◌, ◌++◌, append_assoc, append-nil}
 use mathlib.Core.Option.{Option, none, some}
 use native.Mathlib.Nat.{sub-zero}
 use native.Mathlib.Omega.{arith}
-use lib.Dec.{leb}
 use lib.ListN.{length, take, drop, length-append, length-drop, take-append-drop}
 use lib.Seq.{take_at, drop_at, length-take-le}
-use borrow.Author.Tests.{le-leb, lt-leb, leb-true, leb-false}
+use borrow.Author.Tests.{le-leb, lt-leb}
 use borrow.Rule.Slice.PartMut.{put_mid}
 use Rattle.laws.specs.Choice.{when◌then◌else◌}
-use Rattle.laws.specs.Buffers.{onto, WrittenBuffer, wrote, put_front}
-use Rattle.laws.proofs.Buffers.{length-onto, lent_length, lent, put_front-fits, put_front-short}
+use Rattle.laws.specs.Buffers.{onto}
+use Rattle.laws.proofs.Buffers.{length-onto, lent_length, lent}
+use Rattle.std.specs.Prelude.{Some, None}
+use Rattle.reports.specs.Reports.{PutWhole}
+use Rattle.reports.proofs.Laws.{put_nothing, put_all}
 use Rattle.octets.specs.Numbers.{category}
 use Rattle.model.proofs.FillLaws.{fill-fits}
 use Rattle.model.specs.Fill.{Piece, nothing_more, before, fill_with, fill, next_frame}
@@ -78,49 +80,29 @@ module _ {R : Type 0} {next : R → Option (Piece R)} {q : R} {s buf : List ℕ}
       empty (suc fuel) = rw e
 
   -- what is next, and what a writer of it answered and left of the part that was lent
-  module _ (p : Piece R) (e : next r ≡ some p) (some-octets : 0 < length p.octets) (n : ℕ) (y : List ℕ)
-      (does : wrote n y ≡ put_front p.octets (take (length buf - at) (drop at buf))) where
+  module _ (p : Piece R) (e : next r ≡ some p) (some-octets : 0 < length p.octets) {y : List ℕ} where
     -- it did not fit
-    too_long : n ≡ 0 → length s - at < length p.octets
-    too_long z = go (leb (length p.octets) (length (take (length buf - at) (drop at buf)))) refl
-      where
-        go : (t : Bool) → leb (length p.octets) (length (take (length buf - at) (drop at buf))) ≡ t → length s - at < length p.octets
-        go true h =
-            let m : n ≡ length p.octets = ap (λ (w : WrittenBuffer). w.answer) (does ∙ put_front-fits p.octets (take (length buf - at) (drop at buf)) (leb-true _ _ h)) in
-            absurd (omega arith)
-        go false h = omega (arith, filling_part, leb-false (length p.octets) (length (take (length buf - at) (drop at buf))) h)
-
-    pub filling_full : n ≡ 0 → FilledAs next q s (put_mid at (length buf - at) buf y) at false r
+    pub filling_full : PutWhole p.octets (take (length buf - at) (drop at buf)) None y → FilledAs next q s (put_mid at (length buf - at) buf y) at false r
     unfolding fill fill_with when◌then◌else◌
-    filling_full z =
-        let long = too_long z in
-        let same = part_same at (length buf - at) buf y (ap (λ (w : WrittenBuffer). w.octets) (does ∙ put_front-short p.octets (take (length buf - at) (drop at buf)) (omega (arith, filling_part)))) in
-        rw same (stops false (full F.fuel long) (rw e))
+    filling_full does =
+        let short = put_nothing does in
+        rw (part_same at (length buf - at) buf y short.1) (stops false (full F.fuel (omega (arith, filling_part, short.0))) (rw e))
       where
         full : (fuel : ℕ) → length s - at < length p.octets → fill next fuel (length s - at) r ≡ nothing_more r
         full zero h = refl
         full (suc fuel) h = rw (e, lt-leb (length p.octets) (length s - at) h)
 
     -- it did
-    fitted : (n ≡ 0 → ⊥) → length p.octets ≤ length s - at
-    fitted z = go (leb (length p.octets) (length (take (length buf - at) (drop at buf)))) refl
-      where
-        go : (t : Bool) → leb (length p.octets) (length (take (length buf - at) (drop at buf))) ≡ t → length p.octets ≤ length s - at
-        go true h = omega (arith, filling_part, leb-true (length p.octets) (length (take (length buf - at) (drop at buf))) h)
-        go false h = absurd (z (ap (λ (w : WrittenBuffer). w.answer) (does ∙ put_front-short p.octets (take (length buf - at) (drop at buf)) (leb-false _ _ h))))
+    pub filling_within : {n : ℕ} → PutWhole p.octets (take (length buf - at) (drop at buf)) (Some n) y → at + n ≤ length s
+    filling_within does = let all = put_all does in omega (arith, filling_part, all.0, all.1, F.room)
 
-    written : (n ≡ 0 → ⊥) → wrote n y ≡ wrote (length p.octets) (onto p.octets (take (length buf - at) (drop at buf)))
-    written z = does ∙ put_front-fits p.octets (take (length buf - at) (drop at buf)) (omega (arith, filling_part, fitted z))
-
-    pub filling_within : (n ≡ 0 → ⊥) → at + n ≤ length s
-    filling_within z = omega (arith, ap (λ (w : WrittenBuffer). w.answer) (written z), fitted z, F.room)
-
-    pub filling_next : (n ≡ 0 → ⊥) → Filling next q s (put_mid at (length buf - at) buf y) (at + n) p.rest
+    pub filling_next : {n : ℕ} → PutWhole p.octets (take (length buf - at) (drop at buf)) (Some n) y → Filling next q s (put_mid at (length buf - at) buf y) (at + n) p.rest
     unfolding fill fill_with when◌then◌else◌
-    filling_next z =
+    filling_next {n} does =
         let lb : length buf ≡ length s = filling_length in
-        let h = fitted z in
-        let m : n ≡ length p.octets = ap (λ (w : WrittenBuffer). w.answer) (written z) in
+        let all = put_all does in
+        let m : n ≡ length p.octets = all.0 in
+        let h : length p.octets ≤ length s - at = omega (arith, filling_part, all.1) in
         let k : length s - at - length p.octets ≡ length s - (at + length p.octets) = omega arith in
         rw m
         (record {
@@ -129,7 +111,7 @@ module _ {R : Type 0} {next : R → Option (Piece R)} {q : R} {s buf : List ℕ}
           ends = omega (arith, length-append F.head p.octets, F.ends);
           room = omega (arith, F.room);
           enough = omega (arith, F.enough, F.room);
-          front = lent F.head p.octets s buf y at (length buf - at) F.ends F.front (omega (arith, F.room)) (omega arith) (ap (λ (w : WrittenBuffer). w.octets) (written z));
+          front = lent F.head p.octets s buf y at (length buf - at) F.ends F.front (omega (arith, F.room)) (omega arith) all.2;
           rest =
               F.rest
               ∙ rw (turn F.fuel (omega (arith, F.enough, F.room)) h, k)

@@ -1,6 +1,6 @@
 -- Laws of a report call on one requester: what the code leaves is what the model gives.
 -- Assumes nothing.
-use Prim.Native.Nat.{ℕ}
+use Prim.Native.Nat.{ℕ, ◌+◌}
 use mathlib.Core.Path.{◌≡◌, refl, ap, ◌∙◌}
 use mathlib.Core.Bool.{Bool, true, false, not}
 use mathlib.Core.List.{List, [], ◌∷◌}
@@ -21,11 +21,11 @@ use Rattle.model.specs.Events.{next_event, unless_done}
 use Rattle.model.specs.Diagnostics.{next_diagnostic, unless_over}
 use Rattle.model.specs.Stations.{served, room, give_events, give_diagnostics, if_outstanding, octets_of, give_kind}
 use Rattle.requesters.specs.declared.Requester.{Requester}
-use Rattle.requesters.specs.declared.Answer.TheVariants.{Nothing}
-use Rattle.report_calls.specs.declared.diagnostic_reports.Answered.{Answered}
-use Rattle.report_calls.specs.declared.event_reports.Filled.{Filled}
+use Rattle.requesters.specs.declared.Answer.TheVariants.{Nothing, Length}
+use Rattle.requesters.specs.declared.Progress.{Progress}
+use Rattle.report_calls.specs.declared.Filled.{Filled}
 use Rattle.requesters.specs.Views.{left, events_at, progress_of, view_events, view_diagnostics, view_requester, view_answer, view_identity, view_served}
-use Rattle.report_calls.specs.Internal.{is_none, FramedAs, filled_events, answered_diagnostics, gave_events, gave_diagnostics}
+use Rattle.report_calls.specs.Internal.{is_none, FramedAs, filled_events, answered_diagnostics}
 
 -- the octets of an identity's first len places
 pub identity-octets : (len : ℕ) (identity : List ℕ) → octets_of (view_identity len identity) ≡ take len identity
@@ -53,9 +53,9 @@ module _ (r : Requester) (log : List Entry) (s : List ℕ) where
   unfolding give_kind if_outstanding view_requester view_events view_answer when◌then◌else◌
   no_events e = rw e
 
-  pub gives-events : (s' : List ℕ) (f : Filled) → r.events.outstanding ≡ true
+  pub gives-events : (s' : List ℕ) (f : Filled Progress) → r.events.outstanding ≡ true
       → FramedAs (next_event elapsed_since r.form log) (report_action Event) r.events.dialog (events_at r.events (progress_of r.events)) s s' f.wrote f.done (events_at r.events f.after)
-      → view_served (gave_events r f) s' ≡ give_kind elapsed_since none log s (view_requester r) Event
+      → view_served (record { requester = record r { events = filled_events r.events f }; answer = Length (3 + f.wrote) }) s' ≡ give_kind elapsed_since none log s (view_requester r) Event
   unfolding give_kind if_outstanding give_events view_requester view_events view_answer events_at when◌then◌else◌
   gives-events s' f e g =
       let P = next_frame (next_event elapsed_since r.form log) (report_action Event) r.events.dialog (room s) (events_at r.events (progress_of r.events)) in
@@ -71,15 +71,15 @@ module _ (r : Requester) (len : ℕ) (identity s : List ℕ) where
   unfolding give_kind if_outstanding view_requester view_diagnostics view_answer when◌then◌else◌
   no_diagnostics e = rw e
 
-  pub gives-diagnostics : (s' : List ℕ) (f : Answered) → r.diagnostics.outstanding ≡ true
-      → FramedAs (next_diagnostic (take len identity)) (report_action Diagnostic) r.diagnostics.dialog (left r.diagnostics.first r.diagnostics.count r.diagnostics.elements) s s' f.wrote f.done (left f.first r.diagnostics.count r.diagnostics.elements)
-      → view_served (gave_diagnostics r f) s' ≡ give_kind elapsed_since (view_identity len identity) [] s (view_requester r) Diagnostic
+  pub gives-diagnostics : (s' : List ℕ) (f : Filled ℕ) → r.diagnostics.outstanding ≡ true
+      → FramedAs (next_diagnostic (take len identity)) (report_action Diagnostic) r.diagnostics.dialog (left r.diagnostics.first r.diagnostics.count r.diagnostics.elements) s s' f.wrote f.done (left f.after r.diagnostics.count r.diagnostics.elements)
+      → view_served (record { requester = record r { diagnostics = answered_diagnostics r.diagnostics f }; answer = Length (3 + f.wrote) }) s' ≡ give_kind elapsed_since (view_identity len identity) [] s (view_requester r) Diagnostic
   unfolding give_kind if_outstanding give_diagnostics view_requester view_diagnostics view_answer when◌then◌else◌
   gives-diagnostics s' f e g =
       let d = r.diagnostics in
       let P = next_frame (next_diagnostic (take len identity)) (report_action Diagnostic) d.dialog (room s) (left d.first d.count d.elements) in
       let over : view_diagnostics (answered_diagnostics d f) ≡ unless_over d.dialog d.accepted.0 P.rest =
-      ended-diagnostics (take len identity) d.dialog d.accepted.0 (left f.first d.count d.elements) f.done g.ended
+      ended-diagnostics (take len identity) d.dialog d.accepted.0 (left f.after d.count d.elements) f.done g.ended
       ∙ ap (unless_over d.dialog d.accepted.0) g.after in
       rw (e, identity-octets len identity, g.wrote, g.octets)
       (ap (λ (o : Option DiagnosticRequest). served (record { address = r.address; form = r.form; events = view_events r.events; diagnostics = o }) (of_length (length P.octets)) (onto P.octets s)) over)

@@ -6,3 +6,12 @@ mod event_reports;
 mod report_frames;
 
 pub use report_frames::give_report;
+
+// What filling a buffer came to: so many octets were written, whether the request has nothing more, and
+// how far it has come.
+#[derive(Clone, Copy)]
+pub(crate) struct Filled<P> {
+    pub wrote: usize,
+    pub done: bool,
+    pub after: P,
+}

@@ -10,45 +10,35 @@ ghost use Rattle.model.specs.Events.{next_event};
 ghost use Rattle.model.specs.Diagnostics.{next_diagnostic};
 ghost use Rattle.model.specs.Stations.{give_kind, give_report};
 ghost use Rattle.requesters.specs.Views.{left, events_at, progress_of, view_identity, view_requester, view_served};
-ghost use Rattle.report_calls.specs.Internal.{FramedAs, filled_events, answered_diagnostics, gave_events, gave_diagnostics};
+ghost use Rattle.report_calls.specs.Internal.{FramedAs, filled_events, answered_diagnostics};
 
-use crate::diagnostic_reports::{Answered, fill_diagnostics};
-use crate::event_reports::{Filled, fill_events};
+use crate::Filled;
+use crate::diagnostic_reports::fill_diagnostics;
+use crate::event_reports::fill_events;
 use events::Log;
-use octets::{Kind, Refusal, causes, least, numbers, put};
-use requesters::{Answer, DiagnosticRequest, EventRequest, Requester, Served};
+use octets::{Cause, Kind, least, numbers, put};
+use requesters::{Answer, DiagnosticRequest, EventRequest, Progress, Requester, Served};
 
 // An event request after a buffer was filled from it.
-fn after_events(r: EventRequest, f: Filled) -> EventRequest
+fn after_events(r: EventRequest, f: Filled<Progress>) -> EventRequest
     ensures { result ≡ filled_events r f }
 {
-    let elements = r.elements;
-    EventRequest {
-        outstanding: !f.done,
-        dialog: r.dialog,
-        given: f.after.given,
-        mark: r.mark,
-        below: f.after.below,
-        first: f.after.first,
-        count: r.count,
-        elements,
-    }
+    let mut next = r;
+    next.outstanding = !f.done;
+    next.given = f.after.given;
+    next.below = f.after.below;
+    next.first = f.after.first;
+    next
 }
 
 // A diagnostic request after a buffer was filled from it.
-fn after_diagnostics(r: DiagnosticRequest, f: Answered) -> DiagnosticRequest
+fn after_diagnostics(r: DiagnosticRequest, f: Filled<u8>) -> DiagnosticRequest
     ensures { result ≡ answered_diagnostics r f }
 {
-    let accepted = r.accepted;
-    let elements = r.elements;
-    DiagnosticRequest {
-        outstanding: !f.done,
-        dialog: r.dialog,
-        accepted,
-        first: f.first,
-        count: r.count,
-        elements,
-    }
+    let mut next = r;
+    next.outstanding = !f.done;
+    next.first = f.after;
+    next
 }
 
 // Where a frame in a buffer of so many octets ends at most.
@@ -69,7 +59,7 @@ fn put_header(buf: &mut [u8], kind: Kind, dialog: u8)
 
 // An Event Report frame, in a form. The header comes last: the compiler cannot tell a lent buffer from
 // a lent station, and what is written before the log is copied would cost a copy of the log.
-fn frame_events(form: u8, log: Log, r: EventRequest, buf: &mut [u8]) -> Filled
+fn frame_events(form: u8, log: Log, r: EventRequest, buf: &mut [u8]) -> Filled<Progress>
     requires { 260 ≤ length buf.old }
     ensures { FramedAs (next_event elapsed_since form (logged log)) (report_action Event) r.dialog (events_at r (progress_of r)) buf.old buf.new result.wrote result.done (events_at r result.after) }
 {
@@ -79,15 +69,16 @@ fn frame_events(form: u8, log: Log, r: EventRequest, buf: &mut [u8]) -> Filled
     f
 }
 
-// A Diagnostic Report frame.
+// A Diagnostic Report frame. It has a function of its own: one for both kinds takes what fills it as a
+// closure, and says of each call of that what this one says of one.
 fn frame_diagnostics(
     r: DiagnosticRequest,
     identity: &[u8; 252],
     len: usize,
     buf: &mut [u8],
-) -> Answered
+) -> Filled<u8>
     requires { 260 ≤ length buf.old }
-    ensures { FramedAs (next_diagnostic (take len identity.now)) (report_action Diagnostic) r.dialog (left r.first r.count r.elements) buf.old buf.new result.wrote result.done (left result.first r.count r.elements) }
+    ensures { FramedAs (next_diagnostic (take len identity.now)) (report_action Diagnostic) r.dialog (left r.first r.count r.elements) buf.old buf.new result.wrote result.done (left result.after r.count r.elements) }
 {
     let end = frame_end(buf.len());
     let f = fill_diagnostics(r, identity, len, &mut buf[3..end]);
@@ -101,44 +92,6 @@ fn served(requester: Requester, answer: Answer) -> Served
     Served { requester, answer }
 }
 
-// A requester whose event request gave a frame.
-fn gave_events(r: Requester, f: Filled) -> Served
-    requires { 3 + f.wrote ≤ longest_frame }
-    ensures { result ≡ gave_events r f }
-{
-    let address = r.address;
-    let events = r.events;
-    let diagnostics = r.diagnostics;
-    Served {
-        requester: Requester {
-            address,
-            form: r.form,
-            events: after_events(events, f),
-            diagnostics,
-        },
-        answer: Answer::Length(3 + f.wrote),
-    }
-}
-
-// A requester whose diagnostic request gave a frame.
-fn gave_diagnostics(r: Requester, f: Answered) -> Served
-    requires { 3 + f.wrote ≤ longest_frame }
-    ensures { result ≡ gave_diagnostics r f }
-{
-    let address = r.address;
-    let events = r.events;
-    let diagnostics = r.diagnostics;
-    Served {
-        requester: Requester {
-            address,
-            form: r.form,
-            events,
-            diagnostics: after_diagnostics(diagnostics, f),
-        },
-        answer: Answer::Length(3 + f.wrote),
-    }
-}
-
 // An event report, where a request is outstanding.
 fn give_events(r: Requester, log: Log, buf: &mut [u8]) -> Served
     requires { 260 ≤ length buf.old }
@@ -149,7 +102,9 @@ fn give_events(r: Requester, log: Log, buf: &mut [u8]) -> Served
         return served(r, Answer::Nothing);
     }
     let f = frame_events(r.form, log, events, buf);
-    gave_events(r, f)
+    let mut requester = r;
+    requester.events = after_events(events, f);
+    served(requester, Answer::Length(3 + f.wrote))
 }
 
 // A diagnostic report, where a request is outstanding.
@@ -162,7 +117,9 @@ fn give_diagnostics(r: Requester, identity: &[u8; 252], len: usize, buf: &mut [u
         return served(r, Answer::Nothing);
     }
     let f = frame_diagnostics(diagnostics, identity, len, buf);
-    gave_diagnostics(r, f)
+    let mut requester = r;
+    requester.diagnostics = after_diagnostics(diagnostics, f);
+    served(requester, Answer::Length(3 + f.wrote))
 }
 
 // The report call of a listed requester: refused for a short buffer, nothing, or a frame.
@@ -177,7 +134,7 @@ pub fn give_report(
     ensures { view_served result buf.new ≡ give_report elapsed_since (view_identity len identity.now) (logged log) kind buf.old (view_requester r) }
 {
     if buf.len() < numbers::REPORT_BUFFER {
-        return served(r, Answer::Refused(Refusal::new(causes::SHORT_BUFFER, 0)));
+        return served(r, Answer::Refused(Cause::ShortBuffer.at(0)));
     }
     match kind {
         Kind::Event => give_events(r, log, buf),

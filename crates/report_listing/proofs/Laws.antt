@@ -14,7 +14,13 @@ use Rattle.laws.proofs.Choice.{either}
 use Rattle.laws.proofs.Pieces.{pieces_snoc}
 use Rattle.laws.proofs.Walk.{Rest, start, done, last, again, go_on, stop_refused, stop_end}
 use Rattle.octets.specs.declared.numbers.Kind.{Kind}
+use Rattle.std.proofs.Common.{Result, Ok, Err}
+use Rattle.std.specs.Result.{is_ok}
+use Rattle.octets.specs.declared.refusals.Refusal.{Refusal as CodeRefusal}
 use Rattle.octets.specs.Refusals.{no_refusal}
+use Rattle.octets.proofs.RefusalLaws.{some_number}
+use Rattle.report_reader.specs.declared.Step.{Step as CodeStep}
+use Rattle.report_reader.specs.Reader.{step_read}
 use Rattle.octets.specs.Numbers.{report_action, longest_frame}
 use Rattle.octets.specs.Frames.{frame_cause}
 use Rattle.octets.proofs.FrameLaws.{head-length}
@@ -22,9 +28,7 @@ use Rattle.texts.specs.Text.{text, decimal, Puts}
 use Rattle.texts.proofs.NumberLaws.{decimal-length}
 use Rattle.texts.proofs.PutLaws.{one, at_most, nothing, both}
 use Rattle.events.specs.Times.{is_form}
-use Rattle.report_reader.specs.declared.Step.{Step}
-use Rattle.report_reader.specs.declared.Report.{Report}
-use Rattle.report_reader.specs.Reader.{step_at, cursor_step, report_of, report_kind, read_report, ElementRead, element_read_at, Reading, reading, gathered, unread, read_step, read_elements}
+use Rattle.report_reader.specs.Reader.{step_at, cursor_step, report_of, report_kind, read_report, ElementRead, element_read_at, Reading, reading, gathered, unread, read_step, read_elements, Step, Report}
 use Rattle.report_reader.proofs.Laws.{Forward, goes_on, Extent, found_extent, cursor_told}
 use Rattle.report_listing.specs.Listing.{time_field, report_element_line, report_element_lines}
 use Rattle.report_listing.specs.Internal.{unread_most, tail_most, report_line_most, lines_most, step_line, step_most}
@@ -161,3 +165,8 @@ read_readable form destination s =
 
 pub readable : (form : ℕ) (destination s : List ℕ) (r : Report) → r ≡ read_report form destination s → IsReadable form s r
 readable form destination s r is = rw is (read_readable form destination s)
+
+-- a step that is not refused is one
+pub step_ok : (r : Result CodeStep CodeRefusal) → (step_read r).refusal.number ≡ 0 → is_ok r ≡ true
+step_ok (Ok t) e = refl
+step_ok (Err r) e = absurd (some_number r.cause e)

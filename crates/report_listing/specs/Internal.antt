@@ -3,8 +3,7 @@
 use Rattle.std.specs.Prelude.{ℕ, ◌+◌, ◌*◌, ◌-◌, Bool, true, false, List, []}
 use Rattle.laws.specs.Choice.{when◌then◌else◌}
 use Rattle.octets.specs.declared.numbers.Kind.{Kind}
-use Rattle.report_reader.specs.declared.Step.{Step}
-use Rattle.report_reader.specs.Reader.{element_read_at}
+use Rattle.report_reader.specs.Reader.{element_read_at, Step}
 use Rattle.report_listing.specs.Listing.{report_element_line}
 
 -- ---- how many octets a text has at most

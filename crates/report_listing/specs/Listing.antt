@@ -18,9 +18,8 @@ use Rattle.report_reader.specs.declared.decoders.TransitionReport.{TransitionRep
 use Rattle.report_reader.specs.declared.decoders.RsnaReport.{RsnaReport}
 use Rattle.report_reader.specs.declared.decoders.PeerLinkReport.{PeerLinkReport}
 use Rattle.report_reader.specs.declared.Element.{Element}
-use Rattle.report_reader.specs.declared.Report.{Report}
 use Rattle.report_reader.specs.Decoders.{ReportedEvent, transition_report, rsna_report, peer_link_report}
-use Rattle.report_reader.specs.Reader.{read_report, ElementRead, read_elements}
+use Rattle.report_reader.specs.Reader.{read_report, ElementRead, read_elements, Report}
 
 -- ---- an event
 

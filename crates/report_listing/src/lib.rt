@@ -2,26 +2,25 @@
 // every one of them.
 #![tactic(auto)]
 
-ghost use Rattle.std.specs.Prelude.{◌≡◌, true, ◌+◌, ◌*◌, ◌≤◌, ◌<◌, length, get_or};
+ghost use Rattle.std.specs.Prelude.{◌≡◌, true, ◌+◌, ◌*◌, ◌≤◌, ◌<◌, length, get_or, Ok};
 ghost use Rattle.octets.specs.Fields.{pair_at};
 ghost use Rattle.laws.specs.Buffers.{wrote};
 ghost use Rattle.texts.specs.Text.{Puts, written, Within};
 ghost use Rattle.events.specs.Times.{is_form};
 ghost use Rattle.report_reader.specs.Decoders.{decoded};
-ghost use Rattle.report_reader.specs.Reader.{element_read, read_elements};
+ghost use Rattle.report_reader.specs.Reader.{element_read, step_read, read_elements};
 ghost use Rattle.report_listing.specs.Listing.{time_field, date_text, clock_text, time_text, bare_text, published_text, times_text, colon_text, signals_text, transition_text, vendor_text, rsn_text, rsna_text, peer_link_text, event_text, unread_text, event_tail, tail_text, head_text, report_element_line, report_element_lines, frame_listing, input_listing, report_listing_most};
 ghost use Rattle.report_listing.specs.Internal.{times_most, event_most, unread_most, head_most, tail_most, report_line_most, lines_most, step_line, step_most};
 
 use events::rsna_events::RSN_LENGTH;
 use events::{DRAFT, Times, is_form};
-use octets::{Kind, Refusal, address_at, causes, least, numbers, octet, pair, pair_at, put, size};
+use octets::{Cause, Kind, address_at, least, numbers, octet, pair, pair_at, put, size};
 use report_reader::{
     Cursor, Element, PeerLinkReport, RsnaReport, Step, TransitionReport, peer_link_in, read_report,
     rsna_in, transition_in,
 };
 use texts::{
-    put_element_head, put_frame, put_hex, put_hexes, put_number, put_octet, put_pair, put_refusal,
-    put_size, put_two,
+    put_element_head, put_field, put_frame, put_hex, put_hexes, put_number, put_refusal, put_two,
 };
 
 // What the longest listing has at most: 52 octets for the first line, and 14 for each octet that the
@@ -45,14 +44,14 @@ fn put_time_field(
     if n == ones {
         return put_two(buf, at, front, b"?");
     }
-    put_number(buf, at, front, n as u64, digits)
+    put_number(buf, at, front, u64::from(n), digits)
 }
 
 // One of one octet.
 fn put_time_octet(buf: &mut [u8], at: usize, front: &[u8], n: u8) -> usize
     ensures { Puts (length front.now + 5) (time_field front.now 2 255 n) at buf.old result buf.new }
 {
-    put_time_field(buf, at, front, 2, 255, n as u16)
+    put_time_field(buf, at, front, 2, 255, u16::from(n))
 }
 
 fn put_date(buf: &mut [u8], at: usize, year: u16, month: u8, day: u8) -> usize
@@ -90,20 +89,16 @@ fn put_bare(buf: &mut [u8], at: usize, name: &[u8], o: &[u8]) -> usize
 fn put_published(buf: &mut [u8], at: usize, t: Times) -> usize
     ensures { Puts times_most (published_text t) at buf.old result buf.new }
 {
-    let tsf = t.tsf;
-    let offset = t.offset;
-    let error = t.error;
-    let next = put_bare(buf, at, b" tsf ", &tsf);
-    let next = put_bare(buf, next, b" offset ", &offset);
-    put_bare(buf, next, b" error ", &error)
+    let next = put_bare(buf, at, b" tsf ", &t.tsf);
+    let next = put_bare(buf, next, b" offset ", &t.offset);
+    put_bare(buf, next, b" error ", &t.error)
 }
 
 fn put_times(buf: &mut [u8], at: usize, form: u8, t: Times) -> usize
     ensures { Puts times_most (times_text form t) at buf.old result buf.new }
 {
     if form == DRAFT {
-        let time = t.time;
-        return put_time(buf, at, time);
+        return put_time(buf, at, t.time);
     }
     put_published(buf, at, t)
 }
@@ -120,26 +115,22 @@ fn put_colons(buf: &mut [u8], at: usize, name: &[u8], o: &[u8]) -> usize
 fn put_signals(buf: &mut [u8], at: usize, signals: [u8; 4]) -> usize
     ensures { Puts 64 (signals_text signals) at buf.old result buf.new }
 {
-    let next = put_octet(buf, at, b" source-rcpi ", signals[0]);
-    let next = put_octet(buf, next, b" source-rsni ", signals[1]);
-    let next = put_octet(buf, next, b" target-rcpi ", signals[2]);
-    put_octet(buf, next, b" target-rsni ", signals[3])
+    let next = put_field(buf, at, b" source-rcpi ", signals[0]);
+    let next = put_field(buf, next, b" source-rsni ", signals[1]);
+    let next = put_field(buf, next, b" target-rcpi ", signals[2]);
+    put_field(buf, next, b" target-rsni ", signals[3])
 }
 
 fn put_transition(buf: &mut [u8], at: usize, form: u8, e: TransitionReport) -> usize
     ensures { Puts event_most (transition_text form e) at buf.old result buf.new }
 {
-    let times = e.times;
-    let source = e.source;
-    let target = e.target;
-    let signals = e.signals;
-    let next = put_times(buf, at, form, times);
-    let next = put_colons(buf, next, b" source ", &source);
-    let next = put_colons(buf, next, b" target ", &target);
-    let next = put_pair(buf, next, b" transition ", e.took.0);
-    let next = put_octet(buf, next, b" reason ", e.reason);
-    let next = put_pair(buf, next, b" result ", e.result);
-    put_signals(buf, next, signals)
+    let next = put_times(buf, at, form, e.times);
+    let next = put_colons(buf, next, b" source ", &e.source);
+    let next = put_colons(buf, next, b" target ", &e.target);
+    let next = put_field(buf, next, b" transition ", e.took.0);
+    let next = put_field(buf, next, b" reason ", e.reason);
+    let next = put_field(buf, next, b" result ", e.result);
+    put_signals(buf, next, e.signals)
 }
 
 // The vendor of an EAP method, where its first octet says that there is one.
@@ -167,40 +158,32 @@ fn put_rsn(buf: &mut [u8], at: usize, rsn: [u8; RSN_LENGTH], size: usize) -> usi
 fn put_rsna(buf: &mut [u8], at: usize, form: u8, e: RsnaReport) -> usize
     ensures { Puts event_most (rsna_text form e) at buf.old result buf.new }
 {
-    let times = e.times;
-    let target = e.target;
-    let authentication = e.authentication;
-    let method = e.method;
-    let rsn = e.rsn;
-    let next = put_times(buf, at, form, times);
-    let next = put_colons(buf, next, b" target ", &target);
-    let next = put_colons(buf, next, b" authentication ", &authentication);
-    let next = put_octet(buf, next, b" eap ", method[0]);
-    let next = put_vendor(buf, next, method);
-    let next = put_octet(buf, next, b" result ", e.result);
-    put_rsn(buf, next, rsn, e.size)
+    let next = put_times(buf, at, form, e.times);
+    let next = put_colons(buf, next, b" target ", &e.target);
+    let next = put_colons(buf, next, b" authentication ", &e.authentication);
+    let next = put_field(buf, next, b" eap ", e.method[0]);
+    let next = put_vendor(buf, next, e.method);
+    let next = put_field(buf, next, b" result ", e.result);
+    put_rsn(buf, next, e.rsn, e.size)
 }
 
 // A number of three octets.
 fn three(o: [u8; 3]) -> usize
     ensures { result ≡ pair_at o 0 + 65536 * get_or o 2 0 }
 {
-    (pair_at(&o, 0) as usize) + 65536 * size(&o, 2)
+    usize::from(pair_at(&o, 0)) + 65536 * size(&o, 2)
 }
 
 fn put_peer_link(buf: &mut [u8], at: usize, form: u8, e: PeerLinkReport) -> usize
     ensures { Puts event_most (peer_link_text form e) at buf.old result buf.new }
 {
-    let times = e.times;
-    let peer = e.peer;
-    let connection = e.connection;
-    let next = put_times(buf, at, form, times);
-    let next = put_colons(buf, next, b" peer ", &peer);
-    let next = put_octet(buf, next, b" class ", e.class);
-    let next = put_octet(buf, next, b" channel ", e.channel);
-    let next = put_octet(buf, next, b" power ", e.power);
-    let next = put_size(buf, next, b" connection ", three(connection));
-    put_octet(buf, next, b" peer-status ", e.status)
+    let next = put_times(buf, at, form, e.times);
+    let next = put_colons(buf, next, b" peer ", &e.peer);
+    let next = put_field(buf, next, b" class ", e.class);
+    let next = put_field(buf, next, b" channel ", e.channel);
+    let next = put_field(buf, next, b" power ", e.power);
+    let next = put_field(buf, next, b" connection ", three(e.connection));
+    put_field(buf, next, b" peer-status ", e.status)
 }
 
 // The event of a type, from its octets.
@@ -220,7 +203,7 @@ fn put_unread(buf: &mut [u8], at: usize, ty: u8, n: usize) -> usize
 {
     match ty {
         0..=2 => at,
-        3..=255 => put_size(buf, at, b" rest ", n),
+        3..=255 => put_field(buf, at, b" rest ", n),
     }
 }
 
@@ -242,7 +225,7 @@ fn put_tail(buf: &mut [u8], at: usize, form: u8, kind: Kind, e: Element, o: &[u8
 {
     match kind {
         Kind::Event => put_event_tail(buf, at, form, e, o),
-        Kind::Diagnostic => put_size(buf, at, b" subs ", e.subs),
+        Kind::Diagnostic => put_field(buf, at, b" subs ", e.subs),
     }
 }
 
@@ -250,7 +233,7 @@ fn put_head(buf: &mut [u8], at: usize, kind: Kind, e: Element) -> usize
     ensures { Puts head_most (head_text kind e) at buf.old result buf.new }
 {
     let next = put_element_head(buf, at, kind.report_id(), e.token, e.ty);
-    put_octet(buf, next, b" status ", e.status)
+    put_field(buf, next, b" status ", e.status)
 }
 
 // The line of an element, with the octets behind its status.
@@ -266,16 +249,16 @@ fn put_element(buf: &mut [u8], at: usize, form: u8, kind: Kind, e: Element, o: &
 
 // The line of what stands at a cursor; elements of another ID have none.
 fn put_step(buf: &mut [u8], at: usize, form: u8, s: &[u8], kind: Kind, step: Step) -> usize
-    requires { step.found ≡ true → step.rest + step.element.length ≤ length s.now }
-    ensures { Puts (step_most step) (step_line form s.now kind step) at buf.old result buf.new }
+    requires { (step_read (Ok step)).found ≡ true → (step_read (Ok step)).rest + (step_read (Ok step)).element.length ≤ length s.now }
+    ensures { Puts (step_most (step_read (Ok step))) (step_line form s.now kind (step_read (Ok step))) at buf.old result buf.new }
 {
-    if step.found {
-        let element = step.element;
-        let rest = step.rest;
-        let end = rest + element.length;
-        return put_element(buf, at, form, kind, element, &s[rest..end]);
+    match step.found {
+        Some(f) => {
+            let end = f.rest + f.element.length;
+            put_element(buf, at, form, kind, f.element, &s[f.rest..end])
+        }
+        None => at,
     }
-    at
 }
 
 // The lines of all elements of a frame that is not refused.
@@ -286,10 +269,9 @@ fn put_elements(buf: &mut [u8], from: usize, form: u8, s: &[u8], kind: Kind) -> 
     let mut at = from;
     let mut cursor = Cursor::first();
     while cursor.at < s.len() {
-        let step = cursor.next(form, s, kind);
+        let step = cursor.next(form, s, kind).unwrap();
         at = put_step(buf, at, form, s, kind, step);
-        let next = step.next;
-        cursor = next;
+        cursor = step.next;
     }
     at
 }
@@ -297,26 +279,19 @@ fn put_elements(buf: &mut [u8], from: usize, form: u8, s: &[u8], kind: Kind) -> 
 fn put_listing(buf: &mut [u8], form: u8, destination: [u8; 6], s: &[u8]) -> usize
     ensures { Puts report_listing_most (frame_listing form destination s.now) 0 buf.old result buf.new }
 {
-    let report = read_report(form, destination, s);
-    let refusal = report.refusal;
-    if refusal.number != 0 {
-        return put_refusal(buf, 0, refusal);
+    match read_report(form, destination, s) {
+        Ok(report) => {
+            let action = report.kind.report_action();
+            let next = put_frame(buf, 0, b"report ", action, report.dialog, report.count);
+            put_elements(buf, next, form, s, report.kind)
+        }
+        Err(refusal) => put_refusal(buf, 0, refusal),
     }
-    let kind = report.kind;
-    let next = put_frame(
-        buf,
-        0,
-        b"report ",
-        kind.report_action(),
-        report.dialog,
-        report.count,
-    );
-    put_elements(buf, next, form, s, kind)
 }
 
 // Reads a report frame of a form for a destination and lists it; the text's length.
 pub fn list_report(form: u8, destination: [u8; 6], s: &[u8], buf: &mut [u8; LISTING]) -> usize
-    ensures buf_after { wrote result buf.new ≡ written (frame_listing form destination s.now) buf.old }
+    ensures text { wrote result buf.new ≡ written (frame_listing form destination s.now) buf.old }
     ensures within { Within report_listing_most result buf.new }
 {
     put_listing(buf, form, destination, s)
@@ -327,17 +302,17 @@ fn put_input(buf: &mut [u8], input: &[u8]) -> usize
 {
     let form = octet(input, 0);
     if !is_form(form) {
-        return put_refusal(buf, 0, Refusal::new(causes::BAD_REQUESTER_LIST, 0));
+        return put_refusal(buf, 0, Cause::BadRequesterList.at(0));
     }
     if input.len() < 7 {
-        return put_refusal(buf, 0, Refusal::new(causes::BAD_FRAME_LENGTH, 0));
+        return put_refusal(buf, 0, Cause::BadFrameLength.at(0));
     }
     put_listing(buf, form, address_at(input, 1), &input[7..])
 }
 
 // Lists the input of the program `report`: the form, six octets of destination, then the frame.
 pub fn list_input(input: &[u8], buf: &mut [u8; LISTING]) -> usize
-    ensures buf_after { wrote result buf.new ≡ written (input_listing input.now) buf.old }
+    ensures text { wrote result buf.new ≡ written (input_listing input.now) buf.old }
     ensures within { Within report_listing_most result buf.new }
 {
     put_input(buf, input)

@@ -31,9 +31,7 @@ use Rattle.events.proofs.RsnaLaws.{rsna-whole}
 use Rattle.events.proofs.PeerLinkLaws.{peer-link-length}
 use Rattle.events.proofs.LoggingLaws.{time-length, body_back}
 use Rattle.reports.specs.Reports.{report_element, event_element}
-use Rattle.report_reader.specs.declared.Step.{Step}
-use Rattle.report_reader.specs.declared.Report.{Report}
-use Rattle.report_reader.specs.Reader.{refused_step, plain_step, report_length, is_event_length, typed_step, event_step, walked_step, diagnostic_step, own_report_step, step_at, Reading, reading, gathered, unread, read_step, read_elements, report_of}
+use Rattle.report_reader.specs.Reader.{refused_step, plain_step, report_length, is_event_length, typed_step, event_step, walked_step, diagnostic_step, own_report_step, step_at, Reading, reading, gathered, unread, read_step, read_elements, report_of, Step, Report}
 use Rattle.report_reader.specs.Contents.{Content, status_only, logged_event, kept_unread, with_subelements, Valid, content_octets, content_frame, content_read}
 use Rattle.report_reader.specs.Forms.{Differ, LengthsDiffer, OtherFormRefused, NoEvent, OtherFormNeverShown, tells_event, OtherFrameRefused, SameInBothForms}
 use Rattle.report_reader.proofs.Laws.{time_least}

@@ -8,29 +8,29 @@ use native.Mathlib.Nat.{add-zero}
 use native.Mathlib.Omega.{arith}
 use lib.ListN.{length, get_or, take, drop, length-append}
 use lib.Dec.{eqb, ltb}
-use borrow.Author.Tests.{eqb-true, eqb-false, ltb-false, not-true, not-false}
+use borrow.Author.Tests.{eqb-true, eqb-false, ltb-false, not-true, not-false, ne_eqb}
 use Rattle.laws.specs.Choice.{when◌then◌else◌}
 use Rattle.laws.proofs.Walk.{Rest, start, last, again, done, go_on, stop_refused, stop_end}
 use Rattle.laws.proofs.Choice.{either, apply_if, never}
 use Rattle.octets.specs.declared.numbers.Kind.{Kind}
 use Rattle.octets.specs.declared.numbers.Kind.TheVariants.{Event, Diagnostic}
-use Rattle.octets.specs.Refusals.{no_refusal, bad_time, bad_requester_list}
+use Rattle.std.proofs.Common.{Err}
+use Rattle.octets.specs.declared.refusals.Refusal.{Refusal as CodeRefusal}
+use Rattle.octets.specs.Refusals.{no_refusal, bad_time, bad_requester_list, refusal_of}
+use Rattle.octets.proofs.RefusalLaws.{some_number}
 use Rattle.octets.specs.Elements.{piece_end}
 use Rattle.octets.specs.Times.{time_at}
 use Rattle.octets.proofs.PlaceLaws.{octets-within}
 use Rattle.octets.proofs.ElementLaws.{piece_ends}
-use Rattle.subelements.specs.declared.Subelements.{Subelements}
-use Rattle.subelements.specs.Subelements.{tables, walk}
+use Rattle.subelements.specs.Subelements.{tables, walk, Subelements}
 use Rattle.events.specs.Times.{is_form, time_length}
 use Rattle.events.specs.Transitions.{transition_length}
 use Rattle.events.specs.RsnaEvents.{rsn_length, rsna_length}
 use Rattle.events.specs.PeerLinks.{peer_link_length}
 use Rattle.events.proofs.RsnaLaws.{method_some}
-use Rattle.report_reader.specs.declared.Step.{Step}
-use Rattle.report_reader.specs.declared.Verdict.{Verdict}
-use Rattle.report_reader.specs.declared.Walk.{Walk}
-use Rattle.report_reader.specs.Reader.{refused_step, skipped_step, plain_step, logged_step, bare_step, report_length, is_rsna_length, is_event_length, good_time_at, typed_step, event_step, walked_step, diagnostic_step, kind_step, own_report_step, step_at, cursor_step, element_read_at, Reading, reading, gathered, unread, read_step, read_elements}
-use Rattle.report_reader.specs.Internal.{verdict_of, walk_of, found_element, Fits, step_of, timed_verdict, held, Outline, EventOutline}
+use Rattle.report_reader.specs.Reader.{refused_step, skipped_step, plain_step, logged_step, bare_step, report_length, is_rsna_length, is_event_length, good_time_at, typed_step, event_step, walked_step, diagnostic_step, kind_step, own_report_step, step_at, cursor_step, element_read_at, step_read, Reading, reading, gathered, unread, read_step, read_elements, Step}
+use Rattle.report_reader.specs.declared.Verdict.TheVariants.{Plain, Logged}
+use Rattle.report_reader.specs.Internal.{verdict_of, walk_of, found_element, Fits, step_of, timed_verdict, held, Outline, EventOutline, Verdict, Walk, verdict_given, verdict_read, walk_read}
 
 -- ---- a time, read of the part that it stands in
 
@@ -309,3 +309,29 @@ module _ {form : ℕ} {s : List ℕ} {kind : Kind} {w : Walk} (v : Validating fo
         counted = rw turned moved.counted;
         left = again _ v.left more (omega (arith, moved.on, moved.within)) refl;
       }
+
+-- ---- verdicts and walks as code gives them
+
+module _ (s : List ℕ) (at n : ℕ) {end : ℕ} (e : end ≡ at + 2 + n) where
+  pub told_plain : (subs : ℕ) → verdict_given (Plain end subs) ≡ verdict_of (plain_step s at n subs)
+  unfolding verdict_of plain_step
+  told_plain subs = rw e
+
+  pub told_logged : verdict_given (Logged end) ≡ verdict_of (logged_step s at n)
+  unfolding verdict_of logged_step
+  told_logged = rw e
+
+-- what is refused is not held to anything more
+module _ (form : ℕ) (s : List ℕ) (kind : Kind) (at : ℕ) (r : CodeRefusal) (t : Step) where
+  pub refused_held : Outline form s kind at (verdict_read (Err r)) t → verdict_read (Err r) ≡ verdict_of t
+  unfolding held when◌then◌else◌
+  refused_held o = o.told
+
+  pub refused_gathered : (x : Reading) → verdict_read (Err r) ≡ verdict_of t → walk_read (Err r) ≡ walk_of (gathered form s x t)
+  unfolding gathered verdict_of when◌then◌else◌
+  refused_gathered x e = let f : refusal_of r ≡ t.refusal = ap (λ (v : Verdict). v.refusal) e in
+      rw (← f, ne_eqb _ 0 (some_number r.cause))
+
+  pub refused_told : verdict_read (Err r) ≡ verdict_of t → step_of s at (verdict_of t) ≡ t → step_read (Err r) ≡ t
+  unfolding step_of when◌then◌else◌
+  refused_told e same = rw (← e) at same

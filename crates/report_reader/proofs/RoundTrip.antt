@@ -26,8 +26,7 @@ use Rattle.octets.specs.Elements.{framed, Subelement, subelements}
 use Rattle.octets.proofs.ElementLaws.{piece_stands}
 use Rattle.octets.proofs.PlaceLaws.{octets_stand}
 use Rattle.octets.proofs.FrameLaws.{head-accepted, head_kind}
-use Rattle.subelements.specs.declared.Subelements.{Subelements}
-use Rattle.subelements.specs.Subelements.{tables, no_filter, whole_step, subelement_step, walk}
+use Rattle.subelements.specs.Subelements.{tables, no_filter, whole_step, subelement_step, walk, Subelements}
 use Rattle.subelements.proofs.Tables.{no_length}
 use Rattle.subelements.specs.Subelements.{more_subelements as more_subs}
 use Rattle.events.specs.Times.{is_form, time_length, draft, published_fields}

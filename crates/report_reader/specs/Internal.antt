@@ -1,22 +1,52 @@
 -- Nobody has to believe this file: it has what the contracts of functions inside this crate speak of.
 -- What the validation of a frame sees of a step, and the step by that and the frame: proofs/Laws.antt has step_of s at (verdict_of (step_at form s kind at)) ≡ step_at form s kind at.
 -- Assumes nothing.
-use Rattle.std.specs.Prelude.{ℕ, ◌+◌, ◌-◌, ◌≤◌, ◌≡◌, true, false, not, List, length, get_or}
+use Rattle.std.specs.Prelude.{ℕ, ◌+◌, ◌-◌, ◌≤◌, ◌≡◌, Bool, true, false, not, List, length, get_or, Result, Ok, Err}
 use Rattle.laws.specs.Choice.{when◌then◌else◌}
 use Rattle.octets.specs.declared.numbers.Kind.{Kind}
 use Rattle.octets.specs.declared.numbers.Kind.TheVariants.{Event as EventKind, Diagnostic}
-use Rattle.octets.specs.Refusals.{bad_time}
+use Rattle.octets.specs.Refusals.{Refusal, bad_time, no_refusal, refusal_of}
 use Rattle.report_reader.specs.declared.Element.{Element}
-use Rattle.report_reader.specs.declared.Step.{Step}
-use Rattle.report_reader.specs.declared.Verdict.{Verdict}
-use Rattle.report_reader.specs.declared.Walk.{Walk}
-use Rattle.report_reader.specs.Reader.{refused_step, plain_element, found_step, good_time_at, diagnostic_step, Reading}
+use Rattle.octets.specs.declared.refusals.Refusal.{Refusal as CodeRefusal}
+use Rattle.report_reader.specs.declared.Verdict.{Verdict as CodeVerdict}
+use Rattle.report_reader.specs.declared.Verdict.TheVariants.{Skipped, Plain, Logged}
+use Rattle.report_reader.specs.declared.Walk.{Walk as CodeWalk}
+use Rattle.report_reader.specs.Reader.{Step, refused_step, plain_element, found_step, good_time_at, diagnostic_step, Reading}
+
+pub record Verdict : Type 0 where
+  pub refusal : Refusal
+  pub found : Bool
+  pub logged : Bool
+  pub subs : ℕ
+  pub next : ℕ
 
 -- all but the fields that are only handed out
 unfoldable pub verdict_of : Step → Verdict
 verdict_of t = record { refusal = t.refusal; found = t.found; logged = t.element.logged; subs = t.element.subs; next = t.next.at }
 
+-- as code gives it
+abbrev pub verdict_given : CodeVerdict → Verdict
+verdict_given (Skipped next) = record { refusal = no_refusal; found = false; logged = false; subs = 0; next = next }
+verdict_given (Plain next subs) = record { refusal = no_refusal; found = true; logged = false; subs = subs; next = next }
+verdict_given (Logged next) = record { refusal = no_refusal; found = true; logged = true; subs = 0; next = next }
+
+abbrev pub verdict_read : Result CodeVerdict CodeRefusal → Verdict
+verdict_read (Ok v) = verdict_given v
+verdict_read (Err r) = record { refusal = refusal_of r; found = false; logged = false; subs = 0; next = 0 }
+
 -- what it keeps of a reading: of the elements only their number
+pub record Walk : Type 0 where
+  pub refusal : Refusal
+  pub at : ℕ
+  pub count : ℕ
+
+abbrev pub walk_kept : CodeWalk → Walk
+walk_kept w = record { refusal = no_refusal; at = w.at; count = w.count }
+
+abbrev pub walk_read : Result CodeWalk CodeRefusal → Walk
+walk_read (Ok w) = walk_kept w
+walk_read (Err r) = record { refusal = refusal_of r; at = 0; count = 0 }
+
 abbrev pub walk_of : Reading → Walk
 walk_of x = record { refusal = x.refusal; at = x.at; count = length x.elements }
 

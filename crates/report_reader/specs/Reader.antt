@@ -1,29 +1,30 @@
 -- Document 01: "Reading a report frame, given its destination: 11, 1, 2, then each element 4, 5, 17, then 14 or 7."; document 02 (g): it is
 -- told the form of the time fields, 0 draft or 1 published.
 -- Assumes nothing.
-use Rattle.std.specs.Prelude.{ℕ, ◌+◌, ◌-◌, Bool, true, false, not, ◌&&◌, ◌||◌, List, [], ◌∷◌, ◌++◌, length, get_or, ltb, eqb}
+use Rattle.std.specs.Prelude.{ℕ, ◌+◌, ◌-◌, Bool, true, false, not, ◌&&◌, ◌||◌, List, [], ◌∷◌, ◌++◌, length, get_or, ltb, eqb, Option as CodeOption, Some, None, is_some, Result, Ok, Err}
 use Rattle.std.proofs.Math.Option.{Option, none, some}
 use Rattle.laws.specs.Choice.{when◌then◌else◌}
 use Rattle.laws.specs.Walk.{repeat_while}
 use Rattle.octets.specs.declared.numbers.Kind.{Kind}
 use Rattle.octets.specs.declared.numbers.Kind.TheVariants.{Event as EventKind, Diagnostic}
-use Rattle.octets.specs.declared.refusals.Refusal.{Refusal}
 use Rattle.octets.specs.Numbers.{report_action, report_id, successful, cancelled}
-use Rattle.octets.specs.Refusals.{refused, no_refusal, element_past_end, short_element, bad_report_body, bad_time, group_destination, bad_requester_list}
+use Rattle.octets.specs.declared.refusals.Refusal.{Refusal as CodeRefusal}
+use Rattle.octets.specs.Refusals.{refused, no_refusal, element_past_end, short_element, bad_report_body, bad_time, group_destination, bad_requester_list, Refusal, refusal_of}
 use Rattle.octets.specs.Fields.{octets_at}
 use Rattle.octets.specs.Addresses.{is_group}
 use Rattle.octets.specs.Frames.{frame_kind, frame_cause}
 use Rattle.octets.specs.Elements.{piece_end}
 use Rattle.octets.specs.Times.{good_time, time_at}
-use Rattle.subelements.specs.declared.Subelements.{Subelements}
-use Rattle.subelements.specs.Subelements.{tables, walk}
+use Rattle.subelements.specs.Subelements.{tables, walk, Subelements}
 use Rattle.events.specs.Times.{is_form, time_length, by_form}
 use Rattle.events.specs.Transitions.{transition_length}
 use Rattle.events.specs.RsnaEvents.{method_offset, rsn_length, rsna_length}
 use Rattle.events.specs.PeerLinks.{peer_link_length}
 use Rattle.report_reader.specs.declared.Element.{Element}
-use Rattle.report_reader.specs.declared.Step.{Step}
-use Rattle.report_reader.specs.declared.Report.{Report}
+use Rattle.report_reader.specs.declared.Cursor.{Cursor}
+use Rattle.report_reader.specs.declared.Found.{Found}
+use Rattle.report_reader.specs.declared.Step.{Step as CodeStep}
+use Rattle.report_reader.specs.declared.Report.{Report as CodeReport}
 use Rattle.report_reader.specs.Decoders.{ReportedEvent, decoded}
 
 -- ---- one element
@@ -35,7 +36,15 @@ plain_element token ty status n subs = record { token = token; ty = ty; status =
 abbrev pub logged_element : ℕ → ℕ → ℕ → ℕ → Element
 logged_element token ty status n = record { token = token; ty = ty; status = status; length = n; subs = 0; logged = true }
 
--- what stands at a position: refused, passed over, or an element of the frame's own ID
+-- what stands at a position: refused, passed over, or an element of the frame's own ID with the position of what stands behind its status;
+-- and the position behind it
+pub record Step : Type 0 where
+  pub refusal : Refusal
+  pub found : Bool
+  pub element : Element
+  pub rest : ℕ
+  pub next : Cursor
+
 abbrev pub refused_step : ℕ → ℕ → Step
 refused_step number place =
     record { refusal = refused number place; found = false; element = plain_element 0 0 0 0 0; rest = 0; next = record { at = 0 } }
@@ -167,6 +176,13 @@ read_elements form s kind = repeat_while (length s) (unread (length s)) (read_st
 
 -- ---- a frame
 
+-- refused, or what it reports, its dialog token and the number of its elements
+pub record Report : Type 0 where
+  pub refusal : Refusal
+  pub kind : Kind
+  pub dialog : ℕ
+  pub count : ℕ
+
 -- a refused frame: everything but the refusal is fixed
 abbrev pub refused_report : ℕ → ℕ → Report
 refused_report number place = record { refusal = refused number place; kind = EventKind; dialog = 0; count = 0 }
@@ -188,3 +204,22 @@ read_report form destination s =
     else when is_group destination then refused_report group_destination 0
     else when not (eqb (frame_cause s (report_action (report_kind s))) 0) then refused_report (frame_cause s (report_action (report_kind s))) 0
     else report_of (report_kind s) (get_or s 2 0) (read_elements form s (report_kind s))
+
+-- ---- steps and reports as code gives them
+
+-- what is found, or where nothing is
+abbrev pub found_or_none : CodeOption Found → Found
+found_or_none None = record { element = plain_element 0 0 0 0 0; rest = 0 }
+found_or_none (Some f) = f
+
+abbrev pub step_given : CodeOption Found → Cursor → Step
+step_given found next =
+    record { refusal = no_refusal; found = is_some found; element = (found_or_none found).element; rest = (found_or_none found).rest; next = next }
+
+abbrev pub step_read : Result CodeStep CodeRefusal → Step
+step_read (Ok t) = step_given t.found t.next
+step_read (Err r) = record { refusal = refusal_of r; found = false; element = plain_element 0 0 0 0 0; rest = 0; next = record { at = 0 } }
+
+abbrev pub report_read : Result CodeReport CodeRefusal → Report
+report_read (Ok r) = record { refusal = no_refusal; kind = r.kind; dialog = r.dialog; count = r.count }
+report_read (Err r) = record { refusal = refusal_of r; kind = EventKind; dialog = 0; count = 0 }

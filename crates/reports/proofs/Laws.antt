@@ -1,27 +1,62 @@
 -- Laws of report elements: their lengths, and their parts.
 -- Assumes nothing.
-use Prim.Native.Nat.{ℕ, suc, ◌+◌, ◌≤◌, min}
+use Prim.Native.Nat.{ℕ, suc, ◌+◌, ◌≤◌, ◌<◌, min}
 use mathlib.Core.Path.{◌≡◌, refl, sym, ap, ◌∙◌}
+use mathlib.Core.Bool.{Bool, true, false}
+use lib.Dec.{leb}
 use mathlib.Core.List.{List, [], ◌++◌, append-nil}
-use native.Mathlib.Nat.{zero-add}
 use native.Mathlib.Omega.{arith}
 use lib.ListN.{length, take, length-append, length-take}
 use Rattle.laws.proofs.Arrays.{take_min}
-use Rattle.laws.specs.Buffers.{wrote, put_front, put_at}
-use Rattle.laws.proofs.Buffers.{Putting, putting_start, putting_at, putting_done, putting_end, put_front-fits}
+use Rattle.laws.specs.Choice.{when◌then◌else◌}
+use Rattle.laws.specs.Buffers.{onto, WrittenBuffer, wrote, put_front, put_at}
+use Rattle.laws.proofs.Buffers.{Putting, putting_start, putting_at, putting_done, putting_end, put_front-fits, put_front-short}
 use Rattle.octets.specs.declared.numbers.Kind.{Kind}
 use Rattle.octets.specs.declared.numbers.Kind.TheVariants.{Event}
 use Rattle.octets.specs.Numbers.{successful}
 use Rattle.events.specs.declared.Entry.{Entry}
 use Rattle.events.specs.Times.{time_length}
 use Rattle.events.specs.Log.{body_capacity, body_of, time_of}
-use Rattle.reports.specs.Reports.{report_element, event_element, report_head}
+use borrow.Author.Tests.{le-leb, lt-leb, leb-true, leb-false}
+use Rattle.std.specs.Prelude.{Some, None}
+use Rattle.reports.specs.Reports.{report_element, event_element, report_head, fitting, PutWhole}
 
--- ---- general: writing at the front; all has been written; a count clamped to the length takes the same
+-- ---- general: octets that do not fit, that do; all has been written
 
-pub put_at_front : (o s : List ℕ) → put_at o 0 s ≡ put_front o s
-unfolding put_at put_front
-put_at_front o s = rw (zero-add (length o))
+pub put_short : {o s : List ℕ} → length s < length o → PutWhole o s None s
+unfolding fitting when◌then◌else◌
+put_short {o} {s} h = record { length = rw (lt-leb (length o) (length s) h); octets = rw (put_front-short o s h) }
+
+pub put_long : {o s s' : List ℕ} {n : ℕ} → length o ≤ length s → wrote n s' ≡ put_front o s → PutWhole o s (Some n) s'
+unfolding fitting when◌then◌else◌
+put_long {o} {s} h p =
+    let is = p ∙ put_front-fits o s h in
+    record {
+      length = rw (le-leb (length o) (length s) h) (ap (λ (w : WrittenBuffer). Some w.answer) is);
+      octets = ap (λ (w : WrittenBuffer). w.octets) p;
+    }
+
+-- what their writer's answer says
+pub put_nothing : {o s y : List ℕ} → PutWhole o s None y → (length s < length o) × (y ≡ s)
+unfolding fitting when◌then◌else◌
+put_nothing {o} {s} {y} w = go (leb (length o) (length s)) refl w.length
+  where
+    go : (b : Bool) → leb (length o) (length s) ≡ b → None ≡ (when b then Some (length o) else None) → (length s < length o) × (y ≡ s)
+    go true h e = let z : ◌≡◌ {A = ℕ} 0 1 = cc in absurd (omega arith)
+    go false h e =
+        let short = leb-false (length o) (length s) h in
+        (short, w.octets ∙ ap (λ (w : WrittenBuffer). w.octets) (put_front-short o s short))
+
+pub put_all : {o s y : List ℕ} {n : ℕ} → PutWhole o s (Some n) y → (n ≡ length o) × (length o ≤ length s) × (y ≡ onto o s)
+unfolding fitting when◌then◌else◌
+put_all {o} {s} {y} {n} w = go (leb (length o) (length s)) refl w.length
+  where
+    go : (b : Bool) → leb (length o) (length s) ≡ b → Some n ≡ (when b then Some (length o) else None) → (n ≡ length o) × (length o ≤ length s) × (y ≡ onto o s)
+    go true h e =
+        let fits = leb-true (length o) (length s) h in
+        let z : n ≡ length o = cc in
+        (z, fits, w.octets ∙ ap (λ (w : WrittenBuffer). w.octets) (put_front-fits o s fits))
+    go false h e = let z : ◌≡◌ {A = ℕ} 0 1 = cc in absurd (omega arith)
 
 pub put_whole : {whole s y : List ℕ} {n : ℕ} → Putting whole s y n [] → wrote n y ≡ put_front whole s
 put_whole {whole} {s} {y} {n} p =
@@ -65,9 +100,9 @@ module _ (form token : ℕ) (entry : Entry) (t : length (time_of form entry) ≡
   event-length = rw (← body_part) (element-length Event token entry.ty successful (time_of form entry ++ take n entry.body) ∙ omega (arith, rest-length))
 
   -- head, time fields and body, one behind the other
-  pub put-event_parts : (s head : List ℕ) → 5 + (time_length form + n) ≤ length s → head ≡ report_head Event token entry.ty successful (time_length form + n)
+  pub put-event_parts : (s head : List ℕ) → length (event_element form token entry) ≤ length s → head ≡ report_head Event token entry.ty successful (time_length form + n)
       → (i : ℕ) (y : List ℕ) → wrote i y ≡ put_at head 0 s → (j : ℕ) (z : List ℕ) → wrote j z ≡ put_at (time_of form entry) i y
       → (k : ℕ) (x : List ℕ) → wrote k x ≡ put_at (take n entry.body) j z → wrote k x ≡ put_front (event_element form token entry) s
   put-event_parts s head fits is i y p j z q k x r =
-      put_three _ s (omega (arith, event-length)) head (time_of form entry ++ take n entry.body)
+      put_three _ s fits head (time_of form entry ++ take n entry.body)
       (event_parts ∙ ap (λ l. l ++ (time_of form entry ++ take n entry.body)) (sym is)) i y p (time_of form entry) (take n entry.body) refl j z q k x r

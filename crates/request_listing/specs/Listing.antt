@@ -7,7 +7,7 @@ use Rattle.octets.specs.declared.numbers.Kind.{Kind}
 use Rattle.octets.specs.declared.numbers.Kind.TheVariants.{Event, Diagnostic}
 use Rattle.octets.specs.Numbers.{request_action, request_id}
 use Rattle.requests.specs.declared.Element.{Element}
-use Rattle.requests.specs.declared.Request.{Request}
+use Rattle.requests.specs.Requests.{Request}
 use Rattle.requests.specs.Elements.{element_capacity}
 use Rattle.texts.specs.Text.{text, field, refusal_line, frame_line, element_head}
 

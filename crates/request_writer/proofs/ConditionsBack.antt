@@ -20,8 +20,7 @@ use Rattle.octets.specs.Refusals.{no_refusal}
 use Rattle.octets.specs.Elements.{framed}
 use Rattle.octets.proofs.ElementLaws.{piece_stands}
 use Rattle.subelements.specs.declared.Condition.{Condition}
-use Rattle.subelements.specs.declared.Subelements.{Subelements}
-use Rattle.subelements.specs.Subelements.{tables, length_of, body_at, absent, no_filter, past_filter, past, whole_step, subelement_step, more_subelements}
+use Rattle.subelements.specs.Subelements.{tables, length_of, body_at, absent, no_filter, past_filter, past, whole_step, subelement_step, more_subelements, Subelements}
 use Rattle.subelements.proofs.Bodies.{body_stands}
 use Rattle.subelements.proofs.Tables.{no_row, no_length, length_small}
 use Rattle.laws.specs.Members.{All, also}

@@ -19,8 +19,7 @@ use Rattle.laws.proofs.Parts.{stands_at, stands-first, stands-length, stands-beh
 use Rattle.laws.proofs.Arrays.{fill_next}
 use Rattle.octets.specs.declared.numbers.Kind.{Kind}
 use Rattle.octets.specs.declared.numbers.Kind.TheVariants.{Event, Diagnostic}
-use Rattle.octets.specs.declared.refusals.Refusal.{Refusal}
-use Rattle.octets.specs.Refusals.{no_refusal}
+use Rattle.octets.specs.Refusals.{no_refusal, Refusal}
 use Rattle.octets.specs.Numbers.{request_id}
 use Rattle.octets.proofs.ElementLaws.{piece_stands}
 use Rattle.octets.proofs.FieldLaws.{pair_halves}

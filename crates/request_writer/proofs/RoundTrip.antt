@@ -16,18 +16,15 @@ use Rattle.laws.proofs.Members.{all_take}
 use Rattle.laws.proofs.Choice.{either}
 use Rattle.laws.proofs.Walk.{start}
 use Rattle.octets.specs.declared.numbers.Kind.{Kind}
-use Rattle.octets.specs.declared.refusals.Refusal.{Refusal}
-use Rattle.octets.specs.Refusals.{bad_frame_length, too_many_elements, no_element}
+use Rattle.octets.specs.Refusals.{bad_frame_length, too_many_elements, no_element, Refusal}
 use Rattle.octets.specs.Numbers.{request_action}
 use Rattle.octets.specs.Frames.{frame_kind, frame_cause}
 use Rattle.octets.proofs.FrameLaws.{head-accepted, head_kind}
 use Rattle.requests.specs.declared.Element.{Element}
-use Rattle.requests.specs.declared.Request.{Request}
 use Rattle.requests.specs.Elements.{element_capacity, walk_elements}
-use Rattle.requests.specs.Requests.{refused_request, lacks_element, request_of, request_kind, header_cause, read_request}
-use Rattle.request_writer.specs.declared.Written.{Written}
+use Rattle.requests.specs.Requests.{refused_request, lacks_element, request_of, request_kind, header_cause, read_request, Request}
 use Rattle.request_writer.specs.Frames.{elements_octets, frame_octets}
-use Rattle.request_writer.specs.Writer.{place_behind, refused_written, written_length, token_refusal, elements_answer, frame_answer, write_answer, write_octets, WriteOutcome, outcome, write_request}
+use Rattle.request_writer.specs.Writer.{place_behind, refused_written, written_length, token_refusal, elements_answer, frame_answer, write_answer, write_octets, WriteOutcome, outcome, write_request, Written}
 use Rattle.request_writer.specs.ReadBack.{ElementLengths, read_back, RequestRoundTrip, echoed}
 use Rattle.request_writer.proofs.Lengths.{elements-length}
 use Rattle.request_writer.proofs.ElementsBack.{at_elements, elements_back}

@@ -15,7 +15,11 @@ use Rattle.laws.specs.Buffers.{onto, pieces, wrote, put_at}
 use Rattle.laws.proofs.Buffers.{length-onto, lent, lent_length, putting_start, putting_at, putting_done}
 use Rattle.octets.specs.declared.numbers.Kind.{Kind}
 use Rattle.octets.specs.declared.numbers.Kind.TheVariants.{Event, Diagnostic}
-use Rattle.octets.specs.Refusals.{bad_element_token, too_many_elements, short_buffer, zero_dialog_token}
+use Rattle.std.proofs.Common.{Result, Ok, Err}
+use Rattle.std.specs.Result.{result_unwrap_or}
+use Rattle.octets.specs.declared.refusals.Refusal.{Refusal as CodeRefusal}
+use Rattle.octets.specs.Refusals.{bad_element_token, too_many_elements, short_buffer, zero_dialog_token, no_element}
+use Rattle.requests.specs.Requests.{lacks_element}
 use Rattle.octets.specs.Numbers.{request_action}
 use Rattle.octets.specs.Fields.{low, high}
 use Rattle.octets.specs.Elements.{framed}
@@ -25,9 +29,8 @@ use Rattle.requests.specs.Elements.{element_capacity, past_elements, bad_token}
 use Rattle.laws.proofs.Arrays.{take_next}
 use Rattle.laws.proofs.Pieces.{pieces_snoc}
 use Rattle.laws.proofs.Parts.{spelt, spelt_all}
-use Rattle.request_writer.specs.declared.Written.{Written}
 use Rattle.request_writer.specs.Frames.{condition_length, condition_octets, filter_octets, element_body, element_octets, elements_octets, frame_octets}
-use Rattle.request_writer.specs.Writer.{token_refusal, refused_written, written_length, elements_answer, frame_answer, write_answer, write_octets, outcome, write_request}
+use Rattle.request_writer.specs.Writer.{token_refusal, refused_written, written_length, elements_answer, frame_answer, write_answer, write_octets, outcome, write_request, Written, written}
 use Rattle.request_writer.proofs.ConditionsBack.{length-within}
 use Rattle.request_writer.proofs.RoundTrip.{elements-accepted, frame-accepted}
 
@@ -166,6 +169,19 @@ module _ (kind : Kind) (dialog : ℕ) (es : List Element) (count : ℕ) (s : Lis
   unfolding write_answer when◌then◌else◌
   answered h z = rw (le-ltb (length s) 267 h, ne_eqb dialog 0 z)
 
+  -- a refused answer stays, and one of elements is the frame's, unless a diagnostic request has none
+  pub unframed : (w : Written) → (w.refusal.number ≡ 0 → ⊥) → w ≡ frame_answer kind count w
+  unfolding frame_answer when◌then◌else◌
+  unframed w n = rw (ne_eqb w.refusal.number 0 n)
+
+  pub with-elements : (n : ℕ) → lacks_element kind count ≡ false → written_length n ≡ frame_answer kind count (written_length n)
+  unfolding frame_answer when◌then◌else◌
+  with-elements n e = rw e
+
+  pub without-elements : (n : ℕ) → lacks_element kind count ≡ true → refused_written no_element 0 ≡ frame_answer kind count (written_length n)
+  unfolding frame_answer when◌then◌else◌
+  without-elements n e = rw e
+
   pub nothing_written : (w : Written) → w ≡ write_answer kind dialog es count (length s) → (w.refusal.number ≡ 0 → ⊥) → outcome w s ≡ write_request kind dialog es count s
   unfolding write_octets when◌then◌else◌
   nothing_written w e n = rw (← e, ne_eqb w.refusal.number 0 n)
@@ -199,3 +215,8 @@ module _ (kind : Kind) (dialog : ℕ) (es : List Element) (count n : ℕ) (s bod
       let t : take n body ≡ o = ap (take n) does ∙ take_at o (drop (length o) zeros) n (sym is) in
       let three : k ≡ 3 = omega (arith, p₁.ends, ap length p₁.split, length-append p₁.head o) in
       putting_done (putting_at p₁ o [] (sym (append-nil o)) m z (rw (three, ← t) second)) refl
+
+-- an answer's length is what code gives, or 0
+pub written-length : (r : Result ℕ CodeRefusal) → result_unwrap_or r 0 ≡ (written r).length
+written-length (Ok n) = refl
+written-length (Err r) = refl

@@ -11,9 +11,8 @@ use Rattle.octets.specs.Numbers.{request_buffer}
 use Rattle.subelements.specs.declared.Condition.{Condition}
 use Rattle.subelements.specs.Subelements.{body_at, absent, no_filter}
 use Rattle.requests.specs.declared.Element.{Element}
-use Rattle.requests.specs.declared.Request.{Request}
 use Rattle.requests.specs.Elements.{element_capacity, blank_elements}
-use Rattle.requests.specs.Requests.{refused_request, read_request}
+use Rattle.requests.specs.Requests.{refused_request, read_request, Request}
 use Rattle.request_writer.specs.Frames.{condition_length}
 use Rattle.request_writer.specs.Writer.{write_answer, write_octets}
 

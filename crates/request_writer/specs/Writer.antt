@@ -1,17 +1,16 @@
 -- Document 01, "Why a call is turned away": "Request writer: 13, 3, then 9, 6 in element order, then 10, with the place the element would
 -- have had."
 -- Assumes nothing.
-use Rattle.std.specs.Prelude.{ℕ, ◌+◌, not, List, [], ◌∷◌, ◌++◌, length, take, ltb, eqb}
+use Rattle.std.specs.Prelude.{ℕ, ◌+◌, not, List, [], ◌∷◌, ◌++◌, length, take, ltb, eqb, Result, Ok, Err}
 use Rattle.laws.specs.Choice.{when◌then◌else◌}
 use Rattle.laws.specs.Buffers.{onto}
 use Rattle.octets.specs.declared.numbers.Kind.{Kind}
-use Rattle.octets.specs.declared.refusals.Refusal.{Refusal}
-use Rattle.octets.specs.Refusals.{refused, no_refusal, short_buffer, zero_dialog_token, too_many_elements, bad_element_token, no_element}
+use Rattle.octets.specs.declared.refusals.Refusal.{Refusal as CodeRefusal}
+use Rattle.octets.specs.Refusals.{refused, no_refusal, short_buffer, zero_dialog_token, too_many_elements, bad_element_token, no_element, Refusal, refusal_of}
 use Rattle.octets.specs.Numbers.{request_buffer}
 use Rattle.requests.specs.declared.Element.{Element}
 use Rattle.requests.specs.Elements.{element_capacity, bad_token}
 use Rattle.requests.specs.Requests.{lacks_element}
-use Rattle.request_writer.specs.declared.Written.{Written}
 use Rattle.request_writer.specs.Frames.{elements_octets, frame_octets}
 
 -- "the place the element would have had" behind others: behind the three octets of the header, and them
@@ -24,6 +23,11 @@ token_refusal kind front [] = no_refusal
 token_refusal kind front (e ∷ es) =
     when bad_token kind front e.token then refused bad_element_token (place_behind kind front)
     else token_refusal kind (front ++ (e ∷ [])) es
+
+-- the writer's answer: refused, with length 0, or the frame's length
+pub record Written : Type 0 where
+  pub refusal : Refusal
+  pub length : ℕ
 
 abbrev pub refused_written : ℕ → ℕ → Written
 refused_written number place = record { refusal = refused number place; length = 0 }
@@ -69,3 +73,9 @@ outcome w s = record { answer = w; octets = s }
 
 abbrev pub write_request : Kind → ℕ → List Element → ℕ → List ℕ → WriteOutcome
 write_request kind dialog es count s = outcome (write_answer kind dialog es count (length s)) (write_octets kind dialog es count s)
+
+-- ---- an answer as code gives it
+
+abbrev pub written : Result ℕ CodeRefusal → Written
+written (Ok n) = written_length n
+written (Err r) = record { refusal = refusal_of r; length = 0 }

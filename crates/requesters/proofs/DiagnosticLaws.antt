@@ -1,9 +1,9 @@
 -- Laws of diagnostic requests: of the late drop, of the elements left, and of an accepted frame.
 -- Assumes nothing.
 use Prim.Native.Nat.{ℕ, ◌+◌, ◌≤◌, ◌<◌}
-use mathlib.Core.Path.{◌≡◌, refl, sym, ◌∙◌}
-use mathlib.Core.Bool.{Bool, true, false}
-use mathlib.Core.List.{List, [], ◌∷◌, ◌++◌, append_assoc, append-nil}
+use mathlib.Core.Path.{◌≡◌, refl, sym, ap, ◌∙◌}
+use mathlib.Core.Bool.{Bool, true, false, ◌||◌}
+use mathlib.Core.List.{List, [], ◌∷◌, ◌++◌, map, append_assoc, append-nil}
 use mathlib.Core.Option.{none, some}
 use lib.Dec.{ltb}
 use lib.ListN.{length, get_or, take, drop, set, drop_of_length-le}
@@ -14,8 +14,9 @@ use borrow.Author.Tests.{lt-ltb}
 use Rattle.laws.specs.Members.{any}
 use Rattle.laws.specs.Choice.{when◌then◌else◌}
 use Rattle.model.specs.declared.Diagnostic.{Diagnostic}
-use Rattle.laws.proofs.Tests.{some_here, some_later, some_none, some_behind}
-use Rattle.model.specs.Diagnostics.{diagnostic_treatment, is_cancel, holds_cancel, is_late, on_time, unless_over}
+use Rattle.requests.specs.declared.Element.{Element}
+use Rattle.std.specs.List.{list_any}
+use Rattle.model.specs.Diagnostics.{diagnostic_treatment, is_cancel, holds_cancel, diagnostic_of, is_late, on_time, unless_over}
 
 -- a request by the number of its elements
 pub unless-over : (dialog accepted : ℕ) (xs : List Diagnostic) (n : ℕ) → length xs ≡ n
@@ -59,19 +60,8 @@ module _ (since : ℕ → ℕ → ℕ) (now accepted : ℕ) where
 abbrev pub past_diagnostics : Diagnostic
 past_diagnostics = record { token = 0; ty = 0; timeout = 0 }
 
-module _ (l : List Diagnostic) where
-  pub cancel_here : (i : ℕ) (x : Diagnostic) → i < length l → get_or l i past_diagnostics ≡ x → is_cancel (diagnostic_treatment x.ty) ≡ true → true ≡ holds_cancel (drop i l)
-  unfolding any
-  cancel_here i x h q e = some_here holds_cancel (λ y ys. is_cancel (diagnostic_treatment y.ty)) refl (λ y ys. refl) l i past_diagnostics h (rw q e)
-
-  pub cancel_later : (i : ℕ) (x : Diagnostic) → i < length l → get_or l i past_diagnostics ≡ x → is_cancel (diagnostic_treatment x.ty) ≡ false → holds_cancel (drop (i + 1) l) ≡ holds_cancel (drop i l)
-  unfolding any
-  cancel_later i x h q e = some_later holds_cancel (λ y ys. is_cancel (diagnostic_treatment y.ty)) refl (λ y ys. refl) l i past_diagnostics h (rw q e)
-
-  pub cancel_none : (i : ℕ) → length l ≤ i → false ≡ holds_cancel (drop i l)
-  unfolding any
-  cancel_none i h = some_none holds_cancel (λ y ys. is_cancel (diagnostic_treatment y.ty)) refl (λ y ys. refl) l i h
-
-  pub cancel_behind : (i : ℕ) → true ≡ holds_cancel (drop i l) → true ≡ holds_cancel l
-  unfolding any
-  cancel_behind i e = some_behind holds_cancel (λ y ys. is_cancel (diagnostic_treatment y.ty)) (λ y ys. refl) l i e
+-- does one of the elements of a frame ask for a Cancel, as the library's `any` says it?
+pub cancels_listed : (es : List Element) → list_any (λ x. is_cancel (diagnostic_treatment x.ty)) es ≡ holds_cancel (map diagnostic_of es)
+unfolding any
+cancels_listed [] = refl
+cancels_listed (x ∷ es) = ap (λ b. is_cancel (diagnostic_treatment x.ty) || b) (cancels_listed es)

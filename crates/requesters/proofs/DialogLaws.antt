@@ -7,7 +7,7 @@ use mathlib.Core.Option.{Option, none, some}
 use lib.Dec.{eqb}
 use Rattle.laws.specs.Choice.{when◌then◌else◌}
 use Rattle.octets.specs.declared.numbers.Kind.TheVariants.{Event, Diagnostic}
-use Rattle.requests.specs.declared.Request.{Request}
+use Rattle.requests.specs.Requests.{Request}
 use Rattle.model.specs.Dialogs.{replace}
 use Rattle.model.specs.Events.{open_events, take_events}
 use Rattle.model.specs.Diagnostics.{diagnostics_of, holds_cancel, unless_over, take_diagnostics}

@@ -4,6 +4,7 @@
 use Rattle.std.specs.Prelude.{ℕ, List, eqb, take, drop}
 use Rattle.std.proofs.Math.Option.{Option, none, some}
 use Rattle.laws.specs.Choice.{when◌then◌else◌}
+use Rattle.octets.specs.Refusals.{refusal_of}
 use Rattle.model.specs.Model.{EventRequest, DiagnosticRequest, Requester, Answer, accepted, nothing, of_length, turned_away}
 use Rattle.model.specs.Stations.{Served, served}
 use Rattle.requesters.specs.declared.Served.{Served as CodeServed}
@@ -41,7 +42,7 @@ unfoldable pub view_answer : CodeAnswer → Answer
 view_answer Accepted = accepted
 view_answer Nothing = nothing
 view_answer (Length n) = of_length n
-view_answer (Refused r) = turned_away r
+view_answer (Refused r) = turned_away (refusal_of r)
 
 -- a length of 0: no identity
 unfoldable pub view_identity : ℕ → List ℕ → Option (List ℕ)

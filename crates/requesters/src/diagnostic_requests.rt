@@ -1,7 +1,8 @@
 // Diagnostic requests: the late drop, and what an accepted frame leaves.
-ghost use Rattle.std.specs.Prelude.{◌≡◌, ◌&&◌, ◌≤◌};
+ghost use Rattle.std.specs.Prelude.{◌≡◌, ◌≤◌};
 ghost use Rattle.units.specs.Time.{elapsed_since};
 ghost use Rattle.requests.specs.Elements.{element_capacity};
+ghost use Rattle.requests.specs.Requests.{accepted_request};
 ghost use Rattle.model.specs.Diagnostics.{diagnostic_treatment, is_late, on_time, unless_over, drop_late, is_cancel, holds_cancel, diagnostic_of, diagnostics_of};
 ghost use Rattle.requesters.specs.Views.{left, view_diagnostics};
 ghost use Rattle.requesters.specs.Internal.{listed_elements, renews_diagnostics, new_diagnostics};
@@ -21,9 +22,16 @@ pub fn diagnostic_treatment(ty: u8) -> Treatment
     match ty {
         0 => Treatment::Cancel,
         1 => Treatment::Identity,
-        2..=255 => Treatment::Incapable,
+        _ => Treatment::Incapable,
     }
 }
+
+// What stands in a place that is free.
+const BLANK: Diagnostic = Diagnostic {
+    token: 0,
+    ty: 0,
+    timeout: 0,
+};
 
 // The first count of a request's elements; the other places are free.
 #[derive(Clone, Copy)]
@@ -61,17 +69,16 @@ fn kept(d: DiagnosticRequest, now: Elapsed) -> Diagnostics
 {
     let accepted = d.accepted;
     let all = d.elements;
+    let first = d.first as usize;
     let end = least(d.count as usize, ELEMENT_CAPACITY);
-    let mut i = d.first as usize;
     let mut elements = all;
     let mut count: usize = 0;
-    while i < end {
+    for i in first..end {
         let x = all[i];
         if !is_late(now, accepted, x) {
             elements[count] = x;
             count += 1;
         }
-        i += 1;
     }
     Diagnostics { count, elements }
 }
@@ -100,18 +107,12 @@ fn diagnostic_of(x: Element) -> Diagnostic
 // The elements that a frame asks for, from the last to the first: in the other order the compiler
 // unrolls the loop and copies each element of the frame by itself.
 fn diagnostics_of(q: Request) -> Diagnostics
-    ensures { (listed_elements result ≡ diagnostics_of q) × (result.count ≤ element_capacity) }
+    ensures { (listed_elements result ≡ diagnostics_of (accepted_request q)) × (result.count ≤ element_capacity) }
 {
     let asked = q.elements;
     let end = least(q.count, ELEMENT_CAPACITY);
-    let mut elements = [Diagnostic {
-        token: 0,
-        ty: 0,
-        timeout: 0,
-    }; ELEMENT_CAPACITY];
-    let mut i = end;
-    while 0 < i {
-        i -= 1;
+    let mut elements = [BLANK; ELEMENT_CAPACITY];
+    for i in (0..end).rev() {
         elements[i] = diagnostic_of(asked[i]);
     }
     Diagnostics {
@@ -120,31 +121,19 @@ fn diagnostics_of(q: Request) -> Diagnostics
     }
 }
 
-fn is_cancel(t: Treatment) -> bool
-    ensures { result ≡ is_cancel t }
+fn cancels(x: Element) -> bool
+    ensures { result ≡ is_cancel (diagnostic_treatment x.ty) }
 {
-    match t {
-        Treatment::Cancel => true,
-        Treatment::Report => false,
-        Treatment::Incapable => false,
-        Treatment::Identity => false,
-    }
+    diagnostic_treatment(x.ty) == Treatment::Cancel
 }
 
-// Does a frame ask for a Cancel? From the last element to the first, as above.
+// Does a frame ask for a Cancel?
 fn asks_cancel(q: Request) -> bool
-    ensures { result ≡ holds_cancel (diagnostics_of q) }
+    ensures { result ≡ holds_cancel (diagnostics_of (accepted_request q)) }
 {
     let asked = q.elements;
-    let mut i = least(q.count, ELEMENT_CAPACITY);
-    while 0 < i {
-        i -= 1;
-        let x = asked[i];
-        if is_cancel(diagnostic_treatment(x.ty)) {
-            return true;
-        }
-    }
-    false
+    let end = least(q.count, ELEMENT_CAPACITY);
+    asked[..end].iter().any(|x| cancels(*x))
 }
 
 // No request is outstanding, and none has left anything.
@@ -157,33 +146,22 @@ pub fn blank_diagnostics() -> DiagnosticRequest
         accepted: Elapsed(0),
         first: 0,
         count: 0,
-        elements: [Diagnostic {
-            token: 0,
-            ty: 0,
-            timeout: 0,
-        }; ELEMENT_CAPACITY],
+        elements: [BLANK; ELEMENT_CAPACITY],
     }
 }
 
 // Does a frame of diagnostics change what is outstanding: by a Cancel, or as no repetition?
 fn cancels_or_opens(q: Request, outstanding: bool, current: u8) -> bool
-    ensures { result ≡ renews_diagnostics q outstanding current Kind.Diagnostic }
+    ensures { result ≡ renews_diagnostics (accepted_request q) outstanding current Kind.Diagnostic }
 {
-    if asks_cancel(q) {
-        return true;
-    }
-    !is_repeated(outstanding, current, q.dialog)
+    asks_cancel(q) || !is_repeated(outstanding, current, q.dialog)
 }
 
-// Does a frame, if it is accepted, change what is outstanding?
-pub fn renews_diagnostics(accepted: bool, q: Request, outstanding: bool, current: u8) -> bool
-    ensures { result ≡ (accepted && renews_diagnostics q outstanding current q.kind) }
+// Does an accepted frame change what is outstanding?
+pub fn renews_diagnostics(q: Request, outstanding: bool, current: u8) -> bool
+    ensures { result ≡ renews_diagnostics (accepted_request q) outstanding current q.kind }
 {
-    if !accepted {
-        return false;
-    }
-    let kind = q.kind;
-    match kind {
+    match q.kind {
         Kind::Event => false,
         Kind::Diagnostic => cancels_or_opens(q, outstanding, current),
     }
@@ -191,7 +169,7 @@ pub fn renews_diagnostics(accepted: bool, q: Request, outstanding: bool, current
 
 // What a frame that changes it leaves.
 pub fn new_diagnostics(q: Request, now: Elapsed) -> DiagnosticRequest
-    ensures { view_diagnostics result ≡ new_diagnostics now.0 q }
+    ensures { view_diagnostics result ≡ new_diagnostics now.0 (accepted_request q) }
 {
     if asks_cancel(q) {
         return blank_diagnostics();

@@ -5,8 +5,5 @@ ghost use Rattle.std.specs.Prelude.{◌≡◌, ◌&&◌, eqb};
 pub(crate) fn is_repeated(outstanding: bool, current: u8, dialog: u8) -> bool
     ensures { result ≡ (outstanding && eqb dialog current) }
 {
-    if !outstanding {
-        return false;
-    }
-    dialog == current
+    outstanding && dialog == current
 }

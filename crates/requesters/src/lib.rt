@@ -14,7 +14,7 @@ use octets::Refusal;
 use requests::{ELEMENT_CAPACITY, Element};
 use units::Elapsed;
 
-// An event request, where outstanding. Its elements left are those from first to count; the front
+// An event request, where outstanding: a flag beside its fields, since C lends this memory. Its elements left are those from first to count; the front
 // one gave so many events, and its next one is below the place below. The log's first mark
 // places were logged before acceptance. Places outside first to count are free. Counts are one octet
 // each: as words they would make a station larger by a fortieth, which every call copies.

@@ -12,11 +12,9 @@ use Rattle.octets.specs.declared.numbers.Kind.TheVariants.{Event, Diagnostic}
 use Rattle.octets.specs.Refusals.{no_refusal}
 use Rattle.octets.specs.Numbers.{request_action}
 use Rattle.octets.specs.Frames.{frame_cause}
-use Rattle.subelements.specs.declared.Subelements.{Subelements}
-use Rattle.subelements.specs.Subelements.{walked, whole_step, subelement_step, walk}
-use Rattle.requests.specs.declared.Request.{Request}
+use Rattle.subelements.specs.Subelements.{walked, whole_step, subelement_step, walk, Subelements}
 use Rattle.requests.specs.Elements.{subelements_of, started, ElementWalk, with_element, own_request_step, element_step, walk_elements}
-use Rattle.requests.specs.Requests.{request_causes, request_of, request_kind, header_cause, read_request}
+use Rattle.requests.specs.Requests.{request_causes, request_of, request_kind, header_cause, read_request, Request}
 
 -- none (number 0), or one of them
 abbrev causes : List ℕ

@@ -21,14 +21,12 @@ use Rattle.octets.specs.Elements.{piece_end}
 use Rattle.octets.proofs.FrameLaws.{head-length}
 use Rattle.octets.proofs.ElementLaws.{Ends, piece_ends}
 use Rattle.subelements.specs.declared.Condition.{Condition}
-use Rattle.subelements.specs.declared.Subelements.{Subelements}
-use Rattle.subelements.specs.Subelements.{walked, refused_walk, past, whole_step, subelement_step, tables, walk}
+use Rattle.subelements.specs.Subelements.{walked, refused_walk, past, whole_step, subelement_step, tables, walk, Subelements}
 use Rattle.subelements.proofs.Laws.{walk-at_end}
 use Rattle.requests.specs.declared.Element.{Element}
-use Rattle.requests.specs.declared.Request.{Request}
 use Rattle.requests.specs.Elements.{element_capacity, past_elements, least_body, table_of, subelements_of, element_of, blank_elements, has_token, bad_token, ElementWalk, started, refused_elements, with_element, own_request_step, element_step, more_elements, walk_elements}
 use Rattle.requests.specs.Internal.{subelements_start}
-use Rattle.requests.specs.Requests.{refused_request, lacks_element, request_of, request_kind, header_cause, read_request}
+use Rattle.requests.specs.Requests.{refused_request, lacks_element, request_of, request_kind, header_cause, read_request, Request}
 
 -- ---- the number of subelements: an element of at most 255 octets has fewer than 256
 

@@ -14,7 +14,7 @@ use Rattle.octets.specs.Refusals.{no_refusal, element_past_end, short_element, b
 use Rattle.octets.specs.Numbers.{request_id}
 use Rattle.octets.specs.Elements.{piece_end}
 use Rattle.octets.proofs.ElementLaws.{piece_ends}
-use Rattle.subelements.specs.declared.Subelements.{Subelements}
+use Rattle.subelements.specs.Subelements.{Subelements}
 use Rattle.requests.specs.Elements.{least_body, zero_token, subelements_of, element_of, bad_token, with_element, own_request_step}
 use Rattle.requests.specs.OneElement.{refused_one, read_element}
 

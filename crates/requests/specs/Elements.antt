@@ -6,13 +6,11 @@ use Rattle.laws.specs.Choice.{when◌then◌else◌}
 use Rattle.laws.specs.Walk.{repeat_while}
 use Rattle.octets.specs.declared.numbers.Kind.{Kind}
 use Rattle.octets.specs.declared.numbers.Kind.TheVariants.{Event, Diagnostic}
-use Rattle.octets.specs.declared.refusals.Refusal.{Refusal}
-use Rattle.octets.specs.Refusals.{refused, no_refusal, element_past_end, too_many_elements, short_element, bad_element_token}
+use Rattle.octets.specs.Refusals.{refused, no_refusal, element_past_end, too_many_elements, short_element, bad_element_token, Refusal}
 use Rattle.octets.specs.Numbers.{request_id}
 use Rattle.octets.specs.Fields.{pair_at}
 use Rattle.octets.specs.Elements.{piece_end}
-use Rattle.subelements.specs.declared.Subelements.{Subelements}
-use Rattle.subelements.specs.Subelements.{no_filter, walked, tables, walk}
+use Rattle.subelements.specs.Subelements.{no_filter, walked, tables, walk, Subelements}
 use Rattle.requests.specs.declared.Element.{Element}
 
 -- ---- the fields of one element, whose header stands at a position

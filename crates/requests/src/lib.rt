@@ -3,12 +3,14 @@
 #![tactic(auto)]
 
 ghost use Rattle.std.specs.Prelude.{◌≡◌, ◌+◌, ◌≤◌, ◌<◌, length, get_or, take};
+ghost use Rattle.octets.specs.Refusals.{number_unless};
+ghost use Rattle.subelements.specs.Subelements.{accepted_walk, walk_read};
 ghost use Rattle.requests.specs.Elements.{element_capacity, least_body, limit_at, timeout_at, table_of, subelements_of, element_of, blank_element, blank_elements, has_token, zero_token, bad_token, walk_elements};
 ghost use Rattle.requests.specs.Internal.{subelements_start};
-ghost use Rattle.requests.specs.OneElement.{refused_one, read_element};
-ghost use Rattle.requests.specs.Requests.{refused_request, lacks_element, request_of, header_cause, read_request};
+ghost use Rattle.requests.specs.OneElement.{element_read, read_element};
+ghost use Rattle.requests.specs.Requests.{lacks_element, request_of, request_read, header_cause, read_request};
 
-use octets::{Kind, Refusal, causes, frame_cause, frame_kind, octet, pair_at, piece_end, size};
+use octets::{Cause, Kind, Refusal, check_head, frame_kind, octet, pair_at, piece_end, size};
 use subelements::{Condition, Subelements, TABLES, walk};
 
 // The most elements that a request has.
@@ -30,22 +32,13 @@ pub struct Element {
     pub filter: [Condition; 5],
 }
 
-// What a reader finds: refused, with everything else fixed, or a request of count elements; the
-// places past them are fixed too.
+// What a reader finds: a request of count elements; the places past them are blank.
 #[derive(Clone, Copy)]
 pub struct Request {
-    pub refusal: Refusal,
     pub kind: Kind,
     pub dialog: u8,
     pub count: usize,
     pub elements: [Element; ELEMENT_CAPACITY],
-}
-
-// What a reader finds of one event request element: refused, with the element blank, or the element.
-#[derive(Clone, Copy)]
-pub struct OneElement {
-    pub refusal: Refusal,
-    pub element: Element,
 }
 
 // The octets of a body before its subelements.
@@ -111,9 +104,10 @@ fn table_of(kind: Kind, ty: u8) -> usize
 
 // The subelements of an element from at to end. One call of the walk for all: the compiler then makes
 // the filter where the element is.
-fn subelements_of(s: &[u8], kind: Kind, at: usize, end: usize) -> Subelements
+fn subelements_of(s: &[u8], kind: Kind, at: usize, end: usize) -> Result<Subelements, Refusal>
     requires { (at < 2304) × (end ≤ at + 257) }
-    ensures { (result ≡ subelements_of s.now kind at end) × (result.count < 256) }
+    ensures walked { walk_read result ≡ subelements_of s.now kind at end }
+    ensures few { (walk_read result).count < 256 }
 {
     let ty = table_of(kind, octet(s, at + 3));
     walk(s, ty, subelements_start(s, kind, at, end), end)
@@ -121,7 +115,7 @@ fn subelements_of(s: &[u8], kind: Kind, at: usize, end: usize) -> Subelements
 
 fn element_of(s: &[u8], kind: Kind, at: usize, subs: Subelements) -> Element
     requires { (at < 2304) × (subs.count < 256) }
-    ensures { result ≡ element_of s.now kind at subs }
+    ensures { result ≡ element_of s.now kind at (accepted_walk subs) }
 {
     let filter = subs.filter;
     Element {
@@ -134,22 +128,11 @@ fn element_of(s: &[u8], kind: Kind, at: usize, subs: Subelements) -> Element
     }
 }
 
-// Has one of the first n elements the token?
-fn has_token(es: [Element; ELEMENT_CAPACITY], n: usize, token: u8) -> bool
-    ensures { result ≡ has_token (take n es) token }
+// Has one of the elements the token?
+fn has_token(es: &[Element], token: u8) -> bool
+    ensures { result ≡ has_token es.now token }
 {
-    let mut i: usize = 0;
-    while i < n {
-        if ELEMENT_CAPACITY <= i {
-            return false;
-        }
-        let e = es[i];
-        if e.token == token {
-            return true;
-        }
-        i += 1;
-    }
-    false
+    es.iter().any(|e| e.token == token)
 }
 
 fn zero_token(kind: Kind, token: u8) -> bool
@@ -161,14 +144,11 @@ fn zero_token(kind: Kind, token: u8) -> bool
     }
 }
 
-// Is a token refused behind the first n elements?
-pub fn bad_token(kind: Kind, es: [Element; ELEMENT_CAPACITY], n: usize, token: u8) -> bool
-    ensures { result ≡ bad_token kind (take n es) token }
+// Is a token refused behind the elements?
+pub fn bad_token(kind: Kind, es: &[Element], token: u8) -> bool
+    ensures { result ≡ bad_token kind es.now token }
 {
-    if zero_token(kind, token) {
-        return true;
-    }
-    has_token(es, n, token)
+    zero_token(kind, token) || has_token(es, token)
 }
 
 // What stands where a request has no element.
@@ -194,18 +174,6 @@ pub fn blank_elements() -> [Element; ELEMENT_CAPACITY]
     [blank_element(); ELEMENT_CAPACITY]
 }
 
-fn refused(number: u8, place: usize) -> Request
-    ensures { result ≡ refused_request number place }
-{
-    Request {
-        refusal: Refusal::new(number, place),
-        kind: Kind::Event,
-        dialog: 0,
-        count: 0,
-        elements: blank_elements(),
-    }
-}
-
 // Does a request of a kind lack its element?
 pub fn lacks_element(kind: Kind, count: usize) -> bool
     ensures { result ≡ lacks_element kind count }
@@ -218,113 +186,87 @@ pub fn lacks_element(kind: Kind, count: usize) -> bool
 
 // The elements behind the three octets of the header. They are a local of their own, no field of what
 // is returned: the compiler then makes them where the caller wants them.
-fn read_elements(s: &[u8], kind: Kind) -> Request
+fn read_elements(s: &[u8], kind: Kind) -> Result<Request, Refusal>
     requires { length s.now ≤ 2304 }
-    ensures { result ≡ request_of kind (get_or s.now 2 0) (walk_elements element_capacity s.now kind) }
+    ensures { request_read result ≡ request_of kind (get_or s.now 2 0) (walk_elements element_capacity s.now kind) }
 {
     let mut elements = blank_elements();
     let mut n: usize = 0;
     let mut next: usize = 3;
     while next < s.len() {
         let at = next;
-        let end = piece_end(s, at, s.len());
-        if end == 0 {
-            return refused(causes::ELEMENT_PAST_END, at);
-        }
+        let Some(end) = piece_end(s, at, s.len()) else {
+            return Err(Cause::ElementPastEnd.at(at));
+        };
         next = end;
         if octet(s, at) != kind.request_id() {
             continue;
         }
         if ELEMENT_CAPACITY <= n {
-            return refused(causes::TOO_MANY_ELEMENTS, at);
+            return Err(Cause::TooManyElements.at(at));
         }
         if size(s, at + 1) < least_body(kind) {
-            return refused(causes::SHORT_ELEMENT, at);
+            return Err(Cause::ShortElement.at(at));
         }
-        if bad_token(kind, elements, n, octet(s, at + 2)) {
-            return refused(causes::BAD_ELEMENT_TOKEN, at);
+        if bad_token(kind, &elements[..n], octet(s, at + 2)) {
+            return Err(Cause::BadElementToken.at(at));
         }
-        let subs = subelements_of(s, kind, at, end);
-        if subs.refusal.number != 0 {
-            return refused(subs.refusal.number, subs.refusal.place);
-        }
+        let subs = subelements_of(s, kind, at, end)?;
         elements[n] = element_of(s, kind, at, subs);
         n += 1;
     }
     if lacks_element(kind, n) {
-        return refused(causes::NO_ELEMENT, 0);
+        return Err(Cause::NoElement.at(0));
     }
-    Request {
-        refusal: Refusal::none(),
+    Ok(Request {
         kind,
         dialog: octet(s, 2),
         count: n,
         elements,
-    }
+    })
 }
 
-// Why the header of a frame of a kind is refused; 0 where it is not. One number for all of it, so that
-// a refused request is made at one place.
-fn header_cause(s: &[u8], kind: Kind) -> u8
-    ensures { result ≡ header_cause s.now kind }
+// Is the header of a frame of a kind refused?
+fn check_header(s: &[u8], kind: Kind) -> Result<(), Cause>
+    ensures { number_unless result ≡ header_cause s.now kind }
 {
-    let cause = frame_cause(s, kind.request_action());
-    if cause != 0 {
-        return cause;
-    }
+    check_head(s, kind.request_action())?;
     if octet(s, 2) == 0 {
-        return causes::ZERO_DIALOG_TOKEN;
+        return Err(Cause::ZeroDialogToken);
     }
-    0
+    Ok(())
 }
 
 // Reads one request frame.
-pub fn read_request(s: &[u8]) -> Request
-    ensures { result ≡ read_request element_capacity s.now }
+pub fn read_request(s: &[u8]) -> Result<Request, Refusal>
+    ensures { request_read result ≡ read_request element_capacity s.now }
 {
     let kind = frame_kind(s, Kind::Diagnostic.request_action());
-    let cause = header_cause(s, kind);
-    if cause != 0 {
-        return refused(cause, 0);
+    if let Err(cause) = check_header(s, kind) {
+        return Err(cause.at(0));
     }
     read_elements(s, kind)
 }
 
-fn refused_one(number: u8, place: usize) -> OneElement
-    ensures { result ≡ refused_one number place }
-{
-    OneElement {
-        refusal: Refusal::new(number, place),
-        element: blank_element(),
-    }
-}
-
 // Reads one event request element, all of the octets: as a frame's, with places counted in it.
-pub fn read_element(s: &[u8]) -> OneElement
-    ensures { result ≡ read_element s.now }
+pub fn read_element(s: &[u8]) -> Result<Element, Refusal>
+    ensures { element_read result ≡ read_element s.now }
 {
-    let end = piece_end(s, 0, s.len());
-    if end == 0 {
-        return refused_one(causes::ELEMENT_PAST_END, 0);
-    }
+    let Some(end) = piece_end(s, 0, s.len()) else {
+        return Err(Cause::ElementPastEnd.at(0));
+    };
     if end != s.len() {
-        return refused_one(causes::ELEMENT_PAST_END, 0);
+        return Err(Cause::ElementPastEnd.at(0));
     }
     if octet(s, 0) != Kind::Event.request_id() {
-        return refused_one(causes::ELEMENT_PAST_END, 0);
+        return Err(Cause::ElementPastEnd.at(0));
     }
     if size(s, 1) < least_body(Kind::Event) {
-        return refused_one(causes::SHORT_ELEMENT, 0);
+        return Err(Cause::ShortElement.at(0));
     }
     if zero_token(Kind::Event, octet(s, 2)) {
-        return refused_one(causes::BAD_ELEMENT_TOKEN, 0);
+        return Err(Cause::BadElementToken.at(0));
     }
-    let subs = subelements_of(s, Kind::Event, 0, end);
-    if subs.refusal.number != 0 {
-        return refused_one(subs.refusal.number, subs.refusal.place);
-    }
-    OneElement {
-        refusal: Refusal::none(),
-        element: element_of(s, Kind::Event, 0, subs),
-    }
+    let subs = subelements_of(s, Kind::Event, 0, end)?;
+    Ok(element_of(s, Kind::Event, 0, subs))
 }

@@ -14,7 +14,7 @@ use Rattle.laws.specs.Choice.{when◌then◌else◌}
 use Rattle.laws.specs.Buffers.{onto}
 use Rattle.laws.proofs.Choice.{either}
 use Rattle.units.specs.Time.{elapsed_since}
-use Rattle.octets.specs.Refusals.{refused, bad_requester_list, bad_identity}
+use Rattle.octets.specs.Refusals.{refused, bad_requester_list, bad_identity, number_unless}
 use Rattle.events.specs.declared.Entry.{Entry}
 use Rattle.events.specs.declared.Log.{Log}
 use Rattle.model.specs.Clocks.{unset, elapsed_clock}
@@ -130,14 +130,14 @@ rename_takes n l = go (bad_list requester_capacity l) refl (eqb n 0) refl
     go false e false f h = (e, eqb-false n 0 f)
 
 -- what a list makes of a station at a call with a reading, whatever the call's log
-module _ (g : CodeStation) (reading : ℕ) (l : List Listed) (r : Renaming) (is : Renames g.timer g.length g.requesters g.count reading l r) (o : Outcome) (answer : view_answer o.answer ≡ answer_to (refused r.cause 0)) where
-  module _ (z : r.cause ≡ 0 → ⊥) (s : o.station ≡ with_renaming g r g.log) where
+module _ (g : CodeStation) (reading : ℕ) (l : List Listed) (r : Renaming) (is : Renames g.timer g.length g.requesters g.count reading l r) (o : Outcome) (answer : view_answer o.answer ≡ answer_to (refused (number_unless r.check) 0)) where
+  module _ (z : (number_unless r.check) ≡ 0 → ⊥) (s : o.station ≡ with_renaming g r g.log) where
     renames_late : view_outcome o [] ≡ result (tick elapsed_clock reading (view g)) (refused_for (rename_cause g.length l)) []
     unfolding view_outcome answer_to when◌then◌else◌
     renames_late =
         let drops = is.dropped z in
         let late : o.station ≡ ticked_station g reading r.requesters = s ∙ rw (is.timed, drops.0) in
-        let turned : view_answer o.answer ≡ refused_for (rename_cause g.length l) = answer ∙ rw (ne_eqb r.cause 0 z) (ap (λ (k : ℕ). refused_for k) is.caused) in
+        let turned : view_answer o.answer ≡ refused_for (rename_cause g.length l) = answer ∙ rw (ne_eqb (number_unless r.check) 0 z) (ap (λ (k : ℕ). refused_for k) is.caused) in
         ap (λ (v : Station). result v (view_answer o.answer) []) (ap view late ∙ view_ticked g reading r.requesters drops.1)
         ∙ ap (λ (a : Answer). result (tick elapsed_clock reading (view g)) a []) turned
 
@@ -148,7 +148,7 @@ module _ (g : CodeStation) (reading : ℕ) (l : List Listed) (r : Renaming) (is 
     renames_nothing : (x : CodeStation) → Leaves o x
     renames_nothing x = refused_leaves o x _ _ renames_late
 
-  module _ (e : r.cause ≡ 0) (log : Log) (s : o.station ≡ with_renaming g r log) where
+  module _ (e : (number_unless r.check) ≡ 0) (log : Log) (s : o.station ≡ with_renaming g r log) where
     renames_all : o.station ≡ renamed_station g reading log l
     renames_all = s ∙ rw (is.timed, (is.named e).0, (is.named e).1)
 
@@ -160,26 +160,26 @@ module _ (g : CodeStation) (reading : ℕ) (l : List Listed) (r : Renaming) (is 
     renames_taken =
         let takes = rename_takes g.length l (sym is.caused ∙ e) in
         let named = view-named (advanced_timer g.timer reading) g.length g.identity log l takes.1 (good_length l takes.0) in
-        let taken : view_answer o.answer ≡ accepted = answer ∙ rw (eq-eqb r.cause 0 e) in
+        let taken : view_answer o.answer ≡ accepted = answer ∙ rw (eq-eqb (number_unless r.check) 0 e) in
         ap (λ (v : Station). result v (view_answer o.answer) []) (ap view renames_all ∙ named)
         ∙ ap (λ (a : Answer). result (new_station (view_timer (advanced_timer g.timer reading)) (take g.length g.identity) (logged log) l) a []) taken
         ∙ rename_some (logged log) l (tick elapsed_clock reading (view g)) _ takes.0 (view_some g.length g.identity takes.1)
 
   -- refused, with the log that it had, or taken with a log, by the cause
-  pub renames : (log : Log) → o.station ≡ with_renaming g r (when eqb r.cause 0 then log else g.log)
+  pub renames : (log : Log) → o.station ≡ with_renaming g r (when eqb (number_unless r.check) 0 then log else g.log)
       → (view_outcome o [] ≡ rename standard (logged log) l (tick elapsed_clock reading (view g))) × Leaves o (renamed_station g reading log l)
   unfolding when◌then◌else◌
-  renames log = go (eqb r.cause 0) refl
+  renames log = go (eqb (number_unless r.check) 0) refl
     where
-      go : (b : Bool) → eqb r.cause 0 ≡ b → o.station ≡ with_renaming g r (when b then log else g.log)
+      go : (b : Bool) → eqb (number_unless r.check) 0 ≡ b → o.station ≡ with_renaming g r (when b then log else g.log)
           → (view_outcome o [] ≡ rename standard (logged log) l (tick elapsed_clock reading (view g))) × Leaves o (renamed_station g reading log l)
-      go true h s = let e = eqb-true r.cause 0 h in (renames_taken e log s, renames_leaves e log s)
-      go false h s = let z = eqb-false r.cause 0 h in (renames_refused z s (logged log), renames_nothing z s (renamed_station g reading log l))
+      go true h s = let e = eqb-true (number_unless r.check) 0 h in (renames_taken e log s, renames_leaves e log s)
+      go false h s = let z = eqb-false (number_unless r.check) 0 h in (renames_refused z s (logged log), renames_nothing z s (renamed_station g reading log l))
 
   -- with the log that it had in any case
   pub roams : o.station ≡ with_renaming g r g.log → (view_outcome o [] ≡ rename standard (logged g.log) l (tick elapsed_clock reading (view g))) × Leaves o (renamed_station g reading g.log l)
   unfolding when◌then◌else◌
-  roams s = renames g.log (s ∙ ap (with_renaming g r) (sym (same (eqb r.cause 0))))
+  roams s = renames g.log (s ∙ ap (with_renaming g r) (sym (same (eqb (number_unless r.check) 0))))
     where
       same : (b : Bool) → (when b then g.log else g.log) ≡ g.log
       same true = refl

@@ -14,22 +14,14 @@ use units::Milliseconds;
 
 // What every call makes of the station first: its time is the call's, then the late drop.
 pub(crate) fn ticked(g: Station, reading: Milliseconds) -> Station
-    ensures result_value { view result ≡ stations_tick elapsed_clock reading.0 (view g) }
-    ensures value { result ≡ ticked_station g reading.0 result.requesters }
+    ensures viewed { view result ≡ stations_tick elapsed_clock reading.0 (view g) }
+    ensures whole { result ≡ ticked_station g reading.0 result.requesters }
 {
-    let before = g.timer;
-    let timer = advanced(before, reading);
-    let now = timer.now;
-    let identity = g.identity;
-    let log = g.log;
-    let requesters = g.requesters;
+    let timer = advanced(g.timer, reading);
     Station {
         timer,
-        identity,
-        length: g.length,
-        log,
-        requesters: tick_requesters(requesters, g.count, now),
-        count: g.count,
+        requesters: tick_requesters(g.requesters, g.count, timer.now),
+        ..g
     }
 }
 

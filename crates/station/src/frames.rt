@@ -1,77 +1,93 @@
 // Frame calls.
-ghost use Rattle.std.specs.Prelude.{◌≡◌, [], length};
+ghost use Rattle.std.specs.Prelude.{◌≡◌, List, [], length};
 ghost use Rattle.events.specs.Log.{logged as log_logged};
 ghost use Rattle.model.specs.Clocks.{elapsed_clock};
 ghost use Rattle.model.specs.Model.{standard, frame};
-ghost use Rattle.model.specs.Stations.{request_call, step};
-ghost use Rattle.station.specs.Internal.{frame_refusal};
+ghost use Rattle.model.specs.Stations.{request_call, step, take_kind};
+ghost use Rattle.requests.specs.Requests.{accepted_request, request_read};
+ghost use Rattle.events.specs.declared.Entry.{Entry};
+ghost use Rattle.requesters.specs.Views.{view_requester};
+ghost use Rattle.station.specs.Internal.{admitted};
 ghost use Rattle.station.specs.Views.{view, view_outcome, changed_outcome};
 
 use crate::clock::ticked;
-use crate::outcomes::{answer_of, changed};
+use crate::outcomes::changed;
 use crate::requester_lists::find;
 use crate::{Changed, Outcome, Station};
 use events::{LOG_CAPACITY, Log};
 use model::{REQUESTER_CAPACITY, REQUESTER_LAST};
-use octets::{Refusal, causes, is_group, least};
-use requesters::{new_diagnostics, new_events, renews_diagnostics, renews_events};
+use octets::{Cause, Refusal, is_group};
+use requesters::{
+    Answer, Requester, new_diagnostics, new_events, renews_diagnostics, renews_events,
+};
 use requests::{Request, read_request};
-use units::Milliseconds;
+use units::{Elapsed, Milliseconds};
 
 // How many entries are logged.
 fn logged_in(log: Log) -> u8
     ensures { result ≡ length (log_logged log) }
 {
-    least(log.count, LOG_CAPACITY) as u8
+    log.count.min(LOG_CAPACITY) as u8
 }
 
-// Why a frame is refused, whose source found its requester or did not; number 0 where it is not. The
-// reader's own refusal comes last.
-fn frame_refusal(destination: [u8; 6], found: bool, read: Refusal) -> Refusal
-    ensures { result ≡ frame_refusal destination found read }
+// What the reader made of a frame, unless its destination or its source is refused: the source found its
+// requester, or did not.
+fn admit(
+    destination: [u8; 6],
+    found: bool,
+    read: Result<Request, Refusal>,
+) -> Result<Request, Refusal>
+    ensures { request_read result ≡ admitted destination found (request_read read) }
 {
     if is_group(destination) {
-        return Refusal::new(causes::GROUP_DESTINATION, 0);
+        return Err(Cause::GroupDestination.at(0));
     }
     if !found {
-        return Refusal::new(causes::UNKNOWN_REQUESTER, 0);
+        return Err(Cause::UnknownRequester.at(0));
     }
     read
 }
 
-// What a request from a source to a destination changes, which its reader may have refused. A source that
-// finds no requester has the place behind the last. One way out for all answers; the requesters to search
-// and those to change are read apart, and only what changes is written: else the requesters would be
-// copied once more.
-fn take_request(g: Station, destination: [u8; 6], source: [u8; 6], q: Request) -> Changed
-    ensures { view_outcome (changed_outcome g result) [] ≡ request_call destination source q (view g) }
+// What an accepted frame makes of its requester, beside a log of so many events.
+fn renewed(r: Requester, q: Request, logged: u8, now: Elapsed) -> Requester
+    ensures { (log : List Entry) → logged ≡ length log → view_requester result ≡ take_kind now.0 log (accepted_request q) (view_requester r) q.kind }
+{
+    let mut x = r;
+    if renews_events(q, r.events.outstanding, r.events.dialog) {
+        x.events = new_events(q, logged);
+    }
+    if renews_diagnostics(q, r.diagnostics.outstanding, r.diagnostics.dialog) {
+        x.diagnostics = new_diagnostics(q, now);
+    }
+    x
+}
+
+// What a frame from a source to a destination changes, which its reader may have refused. A source that
+// finds no requester has the place behind the last.
+fn take_request(
+    g: Station,
+    destination: [u8; 6],
+    source: [u8; 6],
+    read: Result<Request, Refusal>,
+) -> Changed
+    ensures { view_outcome (changed_outcome g result) [] ≡ request_call destination source (request_read read) (view g) }
 {
     let timer = g.timer;
-    let now = timer.now;
-    let log = g.log;
-    let all = g.requesters;
-    let i = find(all, g.count, source);
-    let found = i < least(g.count, REQUESTER_CAPACITY);
-    let at = least(i, REQUESTER_LAST);
-    let read = q.refusal;
-    let refusal = frame_refusal(destination, found, read);
-    let accepted = refusal.number == 0;
+    let i = find(g.requesters, g.count, source);
+    let found = i < g.count.min(REQUESTER_CAPACITY);
+    let at = i.min(REQUESTER_LAST);
     let mut requesters = g.requesters;
-    let mut x = requesters[at];
-    let e = x.events;
-    let d = x.diagnostics;
-    if renews_events(accepted, q, e.outstanding, e.dialog) {
-        x.events = new_events(q, logged_in(log));
-        requesters[at] = x;
-    }
-    if renews_diagnostics(accepted, q, d.outstanding, d.dialog) {
-        x.diagnostics = new_diagnostics(q, now);
-        requesters[at] = x;
-    }
+    let answer = match admit(destination, found, read) {
+        Ok(q) => {
+            requesters[at] = renewed(requesters[at], q, logged_in(g.log), timer.now);
+            Answer::Accepted
+        }
+        Err(refusal) => Answer::Refused(refusal),
+    };
     Changed {
         timer,
         requesters,
-        answer: answer_of(refusal),
+        answer,
     }
 }
 

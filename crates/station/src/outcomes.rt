@@ -1,22 +1,23 @@
 // What a call gives: a station and an answer.
-ghost use Rattle.std.specs.Prelude.{◌≡◌, List, map, ℕ, take};
+ghost use Rattle.std.specs.Prelude.{◌≡◌, List, ℕ};
+ghost use Rattle.octets.specs.Refusals.{refused, cause_number, number_unless};
 ghost use Rattle.requesters.specs.Views.{view_requester, view_answer, view_served};
 ghost use Rattle.model.specs.Stations.{result as plain_result, refused_for, served};
 ghost use Rattle.station.specs.Internal.{answer_to, accepted_outcome};
 ghost use Rattle.station.specs.Views.{view, view_outcome, changed_outcome};
 
 use crate::{Changed, Outcome, Station};
-use octets::Refusal;
+use octets::Cause;
 use requesters::{Answer, Requester, Served};
 
-// The answer to a call that is refused so, or by number 0: it is not.
-pub(crate) fn answer_of(refusal: Refusal) -> Answer
-    ensures { view_answer result ≡ answer_to refusal }
+// The answer to a call of the station itself, by whether it is refused.
+pub(crate) fn answer_of(check: Result<(), Cause>) -> Answer
+    ensures { view_answer result ≡ answer_to (refused (number_unless check) 0) }
 {
-    if refusal.number != 0 {
-        return Answer::Refused(refusal);
+    match check {
+        Ok(()) => Answer::Accepted,
+        Err(cause) => Answer::Refused(cause.at(0)),
     }
-    Answer::Accepted
 }
 
 pub(crate) fn accepted_with(station: Station) -> Outcome
@@ -29,13 +30,12 @@ pub(crate) fn accepted_with(station: Station) -> Outcome
 }
 
 // Refused by a cause of the station itself, at place 0.
-pub(crate) fn refused_with(station: Station, cause: u8) -> Outcome
-    ensures { ((buffer : List ℕ) → view_outcome result buffer ≡ plain_result (view station) (refused_for cause) buffer) }
+pub(crate) fn refused_with(station: Station, cause: Cause) -> Outcome
+    ensures { ((buffer : List ℕ) → view_outcome result buffer ≡ plain_result (view station) (refused_for (cause_number cause)) buffer) }
 {
-    let refusal = Refusal::new(cause, 0);
     Outcome {
         station,
-        answer: Answer::Refused(refusal),
+        answer: Answer::Refused(cause.at(0)),
     }
 }
 
@@ -43,31 +43,24 @@ pub(crate) fn refused_with(station: Station, cause: u8) -> Outcome
 pub(crate) fn changed(g: Station, c: Changed) -> Outcome
     ensures { result ≡ changed_outcome g c }
 {
-    let timer = c.timer;
     let requesters = c.requesters;
-    let answer = c.answer;
-    let identity = g.identity;
-    let log = g.log;
     Outcome {
         station: Station {
-            timer,
-            identity,
-            length: g.length,
-            log,
+            timer: c.timer,
             requesters,
-            count: g.count,
+            ..g
         },
-        answer,
+        answer: c.answer,
     }
 }
 
-// A requester that a call leaves as it is, refused by a cause at place 0.
-pub(crate) fn left_alone(requester: Requester, cause: u8) -> Served
-    ensures { ((buffer : List ℕ) → view_served result buffer ≡ served (view_requester requester) (refused_for cause) buffer) }
+// A requester that a call leaves as it is, refused by a cause at place 0. Beside `refused_with`: a trait over
+// both types would be longer than the two.
+pub(crate) fn left_alone(requester: Requester, cause: Cause) -> Served
+    ensures { ((buffer : List ℕ) → view_served result buffer ≡ served (view_requester requester) (refused_for (cause_number cause)) buffer) }
 {
-    let refusal = Refusal::new(cause, 0);
     Served {
         requester,
-        answer: Answer::Refused(refusal),
+        answer: Answer::Refused(cause.at(0)),
     }
 }

@@ -15,7 +15,7 @@ use crate::timers::advanced;
 use crate::{Changed, Outcome, Station};
 use events::Log;
 use model::{REQUESTER_CAPACITY, REQUESTER_LAST};
-use octets::{Kind, causes, least};
+use octets::{Cause, Kind, least};
 use report_calls::give_report;
 use requesters::{Requester, Served};
 use units::Milliseconds;
@@ -33,7 +33,7 @@ fn serve_report(
     ensures { view_served result buf.new ≡ serve_if found (give_report elapsed_since (view_identity len identity.now) (logged log) kind buf.old) buf.old (view_requester r) }
 {
     if !found {
-        return left_alone(r, causes::UNKNOWN_REQUESTER);
+        return left_alone(r, Cause::UnknownRequester);
     }
     give_report(r, identity, len, log, kind, buf)
 }

@@ -11,7 +11,7 @@ use crate::timers::unset;
 use crate::{Outcome, Station};
 use events::blank_log;
 use identities::good_identity;
-use octets::{causes, copy};
+use octets::{Cause, copy};
 
 // The station without identity, log and requesters.
 fn nobody() -> Station
@@ -47,14 +47,14 @@ fn setup_station(identity: &[u8], list: &[[u8; 7]]) -> Station
 impl Station {
     // Names the identity and the requesters.
     pub fn setup(identity: &[u8], list: &[[u8; 7]]) -> Outcome
-        ensures result_value { view_outcome result [] ≡ stations_setup standard identity.now list.now }
+        ensures outcome { view_outcome result [] ≡ stations_setup standard identity.now list.now }
         ensures leaves { Leaves result (setup_station identity.now list.now) }
     {
         if bad_list(list) {
-            return refused_with(nobody(), causes::BAD_REQUESTER_LIST);
+            return refused_with(nobody(), Cause::BadRequesterList);
         }
         if !good_identity(identity) {
-            return refused_with(nobody(), causes::BAD_IDENTITY);
+            return refused_with(nobody(), Cause::BadIdentity);
         }
         accepted_with(setup_station(identity, list))
     }

@@ -25,9 +25,7 @@ fn elapsed_at(t: Timer, reading: Milliseconds) -> Elapsed
     if !t.started {
         return Elapsed(0);
     }
-    let last = t.last;
-    let now = t.now;
-    now.advance(reading.since(last))
+    t.now.advance(reading.since(t.last))
 }
 
 // At a call with a reading.

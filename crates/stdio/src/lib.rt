@@ -5,20 +5,19 @@
 
 ghost use Rattle.std.specs.Prelude.{◌≤◌, length};
 
+use std::convert::AsSlice;
 use std::io;
 use std::io::{Read, Write};
 
-// Standard input, until the buffer is full or the input ends; how many octets it has.
+// Standard input, until the buffer is full or the input ends; how many octets it has. A loop: std's
+// `read_exact` does not tell how many it read of an input that ends.
 pub fn read_full(rt: &HostRuntime, buf: &mut [u8]) -> usize
     ensures { result ≤ length buf.new }
 {
     let mut input = rt.stdin();
     let mut done: usize = 0;
     while done < buf.len() {
-        let n = match input.read(&mut buf[done..]) {
-            Ok(n) => n,
-            Err(_) => 0,
-        };
+        let n = input.read(&mut buf[done..]).unwrap_or(0);
         if n == 0 {
             return done;
         }
@@ -29,8 +28,15 @@ pub fn read_full(rt: &HostRuntime, buf: &mut [u8]) -> usize
 
 // A text to standard output.
 pub fn write_all(rt: &HostRuntime, text: &[u8]) {
-    match io::writer(rt).write_all(text) {
-        Ok(()) => {}
-        Err(_) => {}
-    }
+    let _ = io::writer(rt).write_all(text);
+}
+
+// A text that is put into an array with room for it, to standard output; `put` answers its length.
+pub fn print<A: AsSlice<u8> + Drop, F: FnOnce(&mut A) -> usize>(rt: &HostRuntime, room: A, put: F)
+    requires { F.IsAlwaysCallable put }
+{
+    let mut text = room;
+    let length = put(&mut text);
+    let octets = text.as_slice();
+    write_all(rt, &octets[..length.min(octets.len())]);
 }

@@ -13,8 +13,7 @@ use Rattle.octets.specs.Elements.{piece_end}
 use Rattle.octets.specs.Refusals.{no_refusal, bad_subelement, repeated_subelement}
 use Rattle.octets.proofs.ElementLaws.{Ends, piece_ends}
 use Rattle.subelements.specs.declared.Condition.{Condition}
-use Rattle.subelements.specs.declared.Subelements.{Subelements}
-use Rattle.subelements.specs.Subelements.{length_of, body_at, past_filter, walked, refused_walk, past, whole_step, subelement_step, more_subelements, walk}
+use Rattle.subelements.specs.Subelements.{length_of, body_at, past_filter, walked, refused_walk, past, whole_step, subelement_step, more_subelements, walk, Subelements}
 use Rattle.subelements.proofs.Tables.{known_id}
 
 -- what holds before each turn: not refused, the position bounds the count, and what is left of the walk gives what the whole walk gives

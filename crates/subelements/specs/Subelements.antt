@@ -1,14 +1,14 @@
 -- Document 01, "Frames and elements": the subelements of one element; causes 7 and 8 of the table.
 -- Assumes nothing.
-use Rattle.std.specs.Prelude.{ℕ, ◌+◌, Bool, true, false, not, ◌&&◌, List, [], ◌∷◌, get_or, set, ltb, eqb}
+use Rattle.std.specs.Prelude.{ℕ, ◌+◌, Bool, true, false, not, ◌&&◌, List, [], ◌∷◌, get_or, set, ltb, eqb, Result, Ok, Err}
 use Rattle.laws.specs.Choice.{when◌then◌else◌}
 use Rattle.laws.specs.Walk.{repeat_while}
-use Rattle.octets.specs.declared.refusals.Refusal.{Refusal}
-use Rattle.octets.specs.Refusals.{refused, no_refusal, bad_subelement, repeated_subelement}
+use Rattle.octets.specs.declared.refusals.Refusal.{Refusal as CodeRefusal}
+use Rattle.octets.specs.Refusals.{Refusal, refused, no_refusal, bad_subelement, repeated_subelement, refusal_of}
 use Rattle.octets.specs.Elements.{piece_end}
 use Rattle.subelements.specs.declared.Length.{Length}
+use Rattle.subelements.specs.declared.Subelements.{Subelements as CodeSubelements}
 use Rattle.subelements.specs.declared.Condition.{Condition}
-use Rattle.subelements.specs.declared.Subelements.{Subelements}
 
 -- a subelement's body length, and the one where its first octet is 254; 0: the ID is reserved
 abbrev pub fixed : ℕ → Length
@@ -65,6 +65,13 @@ no_filter = absent ∷ absent ∷ absent ∷ absent ∷ absent ∷ []
 abbrev pub past_filter : Condition
 past_filter = record { present = false; octets = [] }
 
+-- how far a walk has come: refused, or the next position, the number of subelements walked, and the condition of each ID of the table
+pub record Subelements : Type 0 where
+  pub refusal : Refusal
+  pub at : ℕ
+  pub count : ℕ
+  pub filter : List Condition
+
 -- a walk with no subelement yet; a refused walk has nothing else
 abbrev pub walked : Refusal → ℕ → Subelements
 walked r at = record { refusal = r; at = at; count = 0; filter = no_filter }
@@ -103,3 +110,12 @@ tables = 3
 -- all from a position to the end, from the front, as those of an event type; the first refusal stops
 unfoldable pub walk : List ℕ → ℕ → ℕ → ℕ → Subelements
 walk s ty from end = repeat_while end (more_subelements end) (subelement_step s ty end) (walked no_refusal from)
+
+-- ---- a walk as code gives it
+
+abbrev pub accepted_walk : CodeSubelements → Subelements
+accepted_walk w = record { refusal = no_refusal; at = w.at; count = w.count; filter = w.filter }
+
+abbrev pub walk_read : Result CodeSubelements CodeRefusal → Subelements
+walk_read (Ok w) = accepted_walk w
+walk_read (Err r) = walked (refusal_of r) 0

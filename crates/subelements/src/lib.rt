@@ -3,9 +3,10 @@
 #![tactic(auto)]
 
 ghost use Rattle.std.specs.Prelude.{◌≡◌, ◌≤◌, length};
-ghost use Rattle.subelements.specs.Subelements.{row_of, length_of, body_octet, body_at, walked, refused_walk, walk as subelements_walk, tables};
+ghost use Rattle.octets.specs.Refusals.{no_refusal};
+ghost use Rattle.subelements.specs.Subelements.{row_of, length_of, body_octet, body_at, walked, accepted_walk, walk_read, walk as subelements_walk, tables};
 
-use octets::{Refusal, causes, least, octet, piece_end, size};
+use octets::{Cause, Refusal, octet, piece_end, size};
 
 // The subelement of one ID of the table: absent (its octets 0), or present with its body (0 past
 // its length). In a request element of an event type with a table it is a condition.
@@ -16,11 +17,10 @@ pub struct Condition {
     pub octets: [u8; 8],
 }
 
-// How far a walk has come: refused, or the next position, the number of subelements walked, and the
-// condition of each ID of the table.
+// How far a walk has come: the next position, the number of subelements walked, and the condition of
+// each ID of the table.
 #[derive(Clone, Copy)]
 pub struct Subelements {
-    pub refusal: Refusal,
     pub at: usize,
     pub count: usize,
     pub filter: [Condition; 5],
@@ -117,7 +117,7 @@ fn body_octet(s: &[u8], at: usize, n: usize, k: usize) -> u8
 pub fn body(s: &[u8], at: usize, n: usize) -> [u8; 8]
     ensures { result ≡ body_at s.now at n }
 {
-    let from = least(at, s.len());
+    let from = at.min(s.len());
     [
         body_octet(s, from, n, 0),
         body_octet(s, from, n, 1),
@@ -131,11 +131,10 @@ pub fn body(s: &[u8], at: usize, n: usize) -> [u8; 8]
 }
 
 // A walk with no subelement yet.
-fn walk_of(refusal: Refusal, at: usize) -> Subelements
-    ensures { result ≡ walked refusal at }
+fn walk_from(at: usize) -> Subelements
+    ensures { accepted_walk result ≡ walked no_refusal at }
 {
     Subelements {
-        refusal,
         at,
         count: 0,
         filter: [Condition {
@@ -145,26 +144,19 @@ fn walk_of(refusal: Refusal, at: usize) -> Subelements
     }
 }
 
-fn refused(number: u8, place: usize) -> Subelements
-    ensures { result ≡ refused_walk number place }
-{
-    walk_of(Refusal::new(number, place), 0)
-}
-
 // The subelements of a request element of an event type, from a position to its end. A type without a
 // table has them walked for their edges only.
-pub fn walk(s: &[u8], ty: usize, from: usize, end: usize) -> Subelements
-    ensures { result ≡ subelements_walk s.now ty from end }
+pub fn walk(s: &[u8], ty: usize, from: usize, end: usize) -> Result<Subelements, Refusal>
+    ensures { walk_read result ≡ subelements_walk s.now ty from end }
 {
-    let mut w = walk_of(Refusal::none(), from);
+    let mut w = walk_from(from);
     while w.at < end {
         let at = w.at;
-        let next = piece_end(s, at, end);
-        if next == 0 {
-            return refused(causes::BAD_SUBELEMENT, at);
-        }
-        w.at = next;
+        let Some(next) = piece_end(s, at, end) else {
+            return Err(Cause::BadSubelement.at(at));
+        };
         w.count += 1;
+        w.at = next;
         let id = size(s, at);
         let want = length_of(ty, id, octet(s, at + 2));
         if want == 0 {
@@ -172,35 +164,31 @@ pub fn walk(s: &[u8], ty: usize, from: usize, end: usize) -> Subelements
         }
         let n = size(s, at + 1);
         if n != want {
-            return refused(causes::BAD_SUBELEMENT, at);
+            return Err(Cause::BadSubelement.at(at));
         }
         let old = w.filter[id];
         if old.present {
-            return refused(causes::REPEATED_SUBELEMENT, at);
+            return Err(Cause::RepeatedSubelement.at(at));
         }
         w.filter[id] = Condition {
             present: true,
             octets: body(s, at + 2, n),
         };
     }
-    w
+    Ok(w)
 }
 
 // The subelements of a diagnostic report, which are walked for their edges only: no table, no filter.
-pub fn walk_edges(s: &[u8], from: usize, end: usize) -> Subelements
-    ensures { result ≡ subelements_walk s.now tables from end }
+pub fn walk_edges(s: &[u8], from: usize, end: usize) -> Result<Subelements, Refusal>
+    ensures { walk_read result ≡ subelements_walk s.now tables from end }
 {
-    let mut at = from;
-    let mut count: usize = 0;
-    while at < end {
-        let behind = piece_end(s, at, end);
-        if behind == 0 {
-            return refused(causes::BAD_SUBELEMENT, at);
-        }
-        count += 1;
-        at = behind;
+    let mut w = walk_from(from);
+    while w.at < end {
+        let Some(behind) = piece_end(s, w.at, end) else {
+            return Err(Cause::BadSubelement.at(w.at));
+        };
+        w.at = behind;
+        w.count += 1;
     }
-    let mut w = walk_of(Refusal::none(), at);
-    w.count = count;
-    w
+    Ok(w)
 }

@@ -13,7 +13,7 @@ use borrow.Author.Tests.{eq-eqb, le-leb}
 use Rattle.laws.specs.Choice.{when◌then◌else◌}
 use Rattle.laws.specs.Buffers.{wrote, put_at}
 use Rattle.laws.proofs.Choice.{either}
-use Rattle.texts.specs.Text.{digit, spell, decimal, named}
+use Rattle.texts.specs.Text.{digit, spell, decimal, named, PutsWhole}
 
 -- the digit in front of a text that is spelt from its end, place by place
 pub spelt : {A : Type 0} (text : List A) (i : ℕ) (d z : A) → 0 < i → i ≤ length text → drop (i - 1) (set text (i - 1) d) ≡ d ∷ drop i text
@@ -73,7 +73,8 @@ unfolding decimal
 decimal-length zero least n small some few = absurd (omega arith)
 decimal-length (suc k) least n small some few = omega (arith, spell-length 20 k least n [] small few)
 
--- a number behind a name, written, with how long it is at most
-pub named_put : (k n at m : ℕ) (name s y : List ℕ) → n < 10 ^ k → 0 < k → wrote m y ≡ put_at (name ++ decimal 1 n) at s → (wrote m y ≡ put_at (named name n) at s) × (length (named name n) ≤ length name + k)
+-- a number behind a name, written
+pub named_put : (k n at m : ℕ) (name s y : List ℕ) → n < 10 ^ k → 0 < k → wrote m y ≡ put_at (name ++ decimal 1 n) at s → PutsWhole (length name + k) (named name n) at s m y
 unfolding named
-named_put k n at m name s y small some e = (e, omega (arith, length-append name (decimal 1 n), decimal-length k 1 n small some (omega arith)))
+named_put k n at m name s y small some e =
+    record { short = omega (arith, length-append name (decimal 1 n), decimal-length k 1 n small some (omega arith)); does = e }

@@ -4,14 +4,14 @@ use Prim.Native.Nat.{ℕ, ◌+◌, ◌*◌, ◌≤◌, ◌<◌}
 use mathlib.Core.Path.{◌≡◌, refl, sym, ap, ◌∙◌}
 use mathlib.Core.List.{List, [], ◌∷◌, ◌++◌, append_assoc, append-nil}
 use lib.ListN.{length, get_or, take, drop, length-append, take-append-drop}
-use lib.Seq.{drop-drop, length-take-le, take_at, take-suc, take_all, take-take}
+use lib.Seq.{drop-drop, length-take-le, take_at, take-suc, take_all}
 use native.Mathlib.Numerals.{add-one}
 use native.Mathlib.Nat.{zero-add, mul-le-mul_left}
 use native.Mathlib.Omega.{arith}
 use Rattle.laws.specs.Buffers.{onto, pieces, WrittenBuffer, wrote, put_at}
 use Rattle.laws.proofs.Buffers.{put_at-fits, Putting, putting_at, putting_length, putting_done, putting_end}
 use Rattle.laws.proofs.Pieces.{pieces_snoc}
-use Rattle.texts.specs.Text.{Puts, written, Within}
+use Rattle.texts.specs.Text.{Puts, PutsWhole, written, Within}
 
 module _ (o s : List ℕ) (at : ℕ) (fits : at + length o ≤ length s) where
   at_length : length (take at s) ≡ at
@@ -57,8 +57,8 @@ module _ {o s y : List ℕ} {at n : ℕ} where
   one e = record { short = omega arith; does = λ _. e }
 
   -- and of which it is known how long it is at most
-  pub short : {most : ℕ} → (wrote n y ≡ put_at o at s) × (length o ≤ most) → Puts most o at s n y
-  short p = record { short = p.1; does = λ _. p.0 }
+  pub short : {most : ℕ} → PutsWhole most o at s n y → Puts most o at s n y
+  short p = record { short = p.short; does = λ _. p.does }
 
   pub at_most : {most : ℕ} (more : ℕ) → most ≤ more → Puts most o at s n y → Puts more o at s n y
   at_most more h p = record { short = omega (arith, p.short); does = p.does }
@@ -77,31 +77,27 @@ both {o₁} {o₂} {s} {y} {z} {at} {k} {m} p q = record {
       put_two o₁ o₂ s at h k m y z first (q.does h₂);
 }
 
--- ---- the invariant of a loop that writes the first `count` of some pieces one behind the other: i of them are written
+-- ---- the invariant of a loop that writes some pieces one behind the other: the first i are written
 
-pub record Lining {P : Type 0} (f : P → List ℕ) (most : ℕ) (ps : List P) (count from : ℕ) (s buf : List ℕ) (at i : ℕ) : Type 0 where
-  pub few : i ≤ count
+pub record Lining {P : Type 0} (f : P → List ℕ) (most : ℕ) (ps : List P) (from : ℕ) (s buf : List ℕ) (at i : ℕ) : Type 0 where
   pub there : i ≤ length ps
   pub same : length buf ≡ length s
   pub puts : Puts (most * i) (pieces (λ (k : ℕ) (p : P). f p) 0 (take i ps)) from s at buf
 
-pub lining_start : {P : Type 0} (f : P → List ℕ) (most : ℕ) (ps : List P) (count from : ℕ) (s : List ℕ) → Lining f most ps count from s s from 0
+pub lining_start : {P : Type 0} (f : P → List ℕ) (most : ℕ) (ps : List P) (from : ℕ) (s : List ℕ) → Lining f most ps from s s from 0
 unfolding pieces
-lining_start f most ps count from s = record { few = omega arith; there = omega arith; same = refl; puts = at_most (most * 0) (omega arith) (nothing from s) }
+lining_start f most ps from s = record { there = omega arith; same = refl; puts = at_most (most * 0) (omega arith) (nothing from s) }
 
-module _ {P : Type 0} {f : P → List ℕ} {most : ℕ} {ps : List P} {count from : ℕ} {s buf : List ℕ} {at i : ℕ} (l : Lining f most ps count from s buf at i) where
-  pub lining_next : (d : P) {n : ℕ} {y : List ℕ} → i < count → i < length ps → length y ≡ length buf → Puts most (f (get_or ps i d)) at buf n y → Lining f most ps count from s y n (i + 1)
-  lining_next d more h keeps q =
+module _ {P : Type 0} {f : P → List ℕ} {most : ℕ} {ps : List P} {from : ℕ} {s buf : List ℕ} {at i : ℕ} (l : Lining f most ps from s buf at i) where
+  pub lining_next : (d : P) {n : ℕ} {y : List ℕ} → i < length ps → length y ≡ length buf → Puts most (f (get_or ps i d)) at buf n y → Lining f most ps from s y n (i + 1)
+  lining_next d h keeps q =
       let taken : take (i + 1) ps ≡ take i ps ++ (get_or ps i d ∷ []) = rw add-one (take-suc ps i d h) in
       let all : pieces (λ (k : ℕ) (p : P). f p) 0 (take (i + 1) ps) ≡ pieces (λ (k : ℕ) (p : P). f p) 0 (take i ps) ++ f (get_or ps i d)
       = ap (pieces (λ (k : ℕ) (p : P). f p) 0) taken ∙ pieces_snoc f 0 (take i ps) (get_or ps i d) in
-      record { few = omega arith; there = omega arith; same = keeps ∙ l.same; puts = rw all (at_most (most * (i + 1)) (omega arith) (both l.puts q)) }
+      record { there = omega arith; same = keeps ∙ l.same; puts = rw all (at_most (most * (i + 1)) (omega arith) (both l.puts q)) }
 
-  pub lining_end : length (take count ps) ≤ i → Puts (most * length ps) (pieces (λ (k : ℕ) (p : P). f p) 0 (take count ps)) from s at buf
-  lining_end h =
-      let all : take count ps ≡ take i ps = sym (take_all i (take count ps) h) ∙ take-take i count ps l.few in
-      let room : most * i ≤ most * length ps = mul-le-mul_left most l.there in
-      rw all (at_most (most * length ps) room l.puts)
+  pub lining_end : length ps ≤ i → Puts (most * length ps) (pieces (λ (k : ℕ) (p : P). f p) 0 ps) from s at buf
+  lining_end h = rw (take_all i ps h) at (at_most (most * length ps) (mul-le-mul_left most l.there) l.puts)
 
 -- ---- at the front of a buffer that has room for the most
 
@@ -114,7 +110,7 @@ whole {o} {s} {y} {n} p room =
     (e ∙ put_at-fits o 0 s at ∙ rw (zero-add (length o)), (omega (arith, p.short), h, sym (length-take-le n y h)))
 
 -- the first octets, as many as the answer says, are then the text; put elsewhere, all or nothing, they are that text there
-pub told : (o s y b z : List ℕ) (n at m most : ℕ) → wrote n y ≡ written o s → n ≤ most → wrote m z ≡ put_at (take n y) at b → (wrote m z ≡ put_at o at b) × (length o ≤ most)
+pub told : (o s y b z : List ℕ) (n at m most : ℕ) → wrote n y ≡ written o s → n ≤ most → wrote m z ≡ put_at (take n y) at b → PutsWhole most o at b m z
 told o s y b z n at m most e few does =
     let same : take n y ≡ o = ap (λ (w : WrittenBuffer). take w.answer w.octets) e ∙ take_at o (drop (length o) s) (length o) refl in
-    (does ∙ ap (λ (x : List ℕ). put_at x at b) same, omega (arith, ap (λ (w : WrittenBuffer). w.answer) e))
+    record { short = omega (arith, ap (λ (w : WrittenBuffer). w.answer) e); does = does ∙ ap (λ (x : List ℕ). put_at x at b) same }

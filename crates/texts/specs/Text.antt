@@ -5,7 +5,7 @@ use Prim.Native.Char.{code}
 use Prim.Native.String.{String, [] as none, ◌∷◌ as ◌then◌}
 use Rattle.laws.specs.Choice.{when◌then◌else◌}
 use Rattle.laws.specs.Buffers.{onto, pieces, WrittenBuffer, wrote, put_at}
-use Rattle.octets.specs.declared.refusals.Refusal.{Refusal}
+use Rattle.octets.specs.Refusals.{Refusal}
 
 -- the octets of a text
 abbrev pub text : String → List ℕ
@@ -71,6 +71,11 @@ element_head id token ty = field "element " id ++ field " token " token ++ field
 pub record Puts (most : ℕ) (o : List ℕ) (at : ℕ) (s : List ℕ) (n : ℕ) (y : List ℕ) : Type 0 where
   pub short : length o ≤ most
   pub does : at + length o ≤ length s → wrote n y ≡ put_at o at s
+
+-- a text of at most so many octets there, all of it or nothing
+pub record PutsWhole (most : ℕ) (o : List ℕ) (at : ℕ) (s : List ℕ) (n : ℕ) (y : List ℕ) : Type 0 where
+  pub short : length o ≤ most
+  pub does : wrote n y ≡ put_at o at s
 
 -- a text at the front of a buffer that has room for every such text, answered by its length
 abbrev pub written : List ℕ → List ℕ → WrittenBuffer

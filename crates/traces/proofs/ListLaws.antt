@@ -1,11 +1,6 @@
 -- Laws of requesters that are read one behind the other: one more, and those past the end.
 -- Assumes nothing.
-use Prim.Native.Nat.{ℕ, zero, suc, ◌+◌, ◌*◌, ◌≤◌, ◌<◌}
-use mathlib.Core.Path.{◌≡◌, refl, ap, ◌∙◌}
-use mathlib.Core.List.{List, [], ◌∷◌, ◌++◌, append-nil}
-use native.Mathlib.Omega.{arith}
-use native.Mathlib.Numerals.{add-one}
-use lib.ListN.{length, drop, set, drop_of_length-le}
+use Rattle.std.proofs.Common.{ℕ, zero, suc, ◌+◌, ◌*◌, ◌≤◌, ◌<◌, min, ◌≡◌, refl, ap, ◌∙◌, List, [], ◌∷◌, ◌++◌, append-nil, arith, add-one, length, drop, set, drop_of_length-le, Bool, true, false, leb, leb-true, leb-false}
 use Rattle.laws.proofs.Arrays.{fill_next}
 use Rattle.octets.proofs.PlaceLaws.{octets-past}
 use Rattle.traces.specs.Records.{requester_at, requesters_at}
@@ -30,6 +25,19 @@ module _ (s : List ℕ) where
   requesters-past (suc n) a b ha hb =
       let t : requesters_at s n (a + 7) ≡ requesters_at s n (b + 7) = requesters-past n (a + 7) (b + 7) (omega arith) (omega arith) in
       rw (octets-past s 7 a b ha hb, t)
+
+  -- so a position past the end counts as the end
+  pub requesters-cut : (n from first : ℕ) → first ≡ min from (length s) → requesters_at s n first ≡ requesters_at s n from
+  requesters-cut n from first e = go (leb from (length s)) refl
+    where
+      go : (b : Bool) → leb from (length s) ≡ b → requesters_at s n first ≡ requesters_at s n from
+      go true h =
+          let p = leb-true from (length s) h in
+          let q : first ≡ from = omega arith in
+          ap (requesters_at s n) q
+      go false h =
+          let p = leb-false from (length s) h in
+          requesters-past n first from (omega arith) (omega arith)
 
   -- the loop that reads them: the first i are read
   module _ (blank list : List (List ℕ)) (i from : ℕ) (is : list ≡ requesters_at s i from ++ drop i blank) where

@@ -1,9 +1,9 @@
 -- The lines that `replay` prints of answers, explanations and lent buffers.
 -- Assumes nothing.
 use Rattle.std.specs.Prelude.{ℕ, ◌+◌, ◌*◌, List, [], ◌++◌}
+use Rattle.octets.specs.Refusals.{refusal_of}
 use Rattle.texts.specs.Text.{text, hexes, named, refusal_line}
-use Rattle.explanations.specs.declared.Explanation.{Explanation}
-use Rattle.explanations.specs.declared.Explanation.TheVariants.{Refused as Unexplained, LoggedAfter, WrongType, Unmet, LimitReached, Reported}
+use Rattle.explanations.specs.Explanations.{Explanation, Refused as Unexplained, LoggedAfter, WrongType, Unmet, LimitReached, Reported}
 use Rattle.requesters.specs.declared.Answer.{Answer}
 use Rattle.requesters.specs.declared.Answer.TheVariants.{Accepted, Nothing, Length, Refused}
 use Rattle.traces.specs.Places.{longest_length}
@@ -17,7 +17,7 @@ unfoldable pub answer_line : Answer → List ℕ
 answer_line Accepted = text "accepted\n"
 answer_line Nothing = text "nothing\n"
 answer_line (Length n) = number_line (text "length ") n
-answer_line (Refused r) = refusal_line r
+answer_line (Refused r) = refusal_line (refusal_of r)
 
 -- "`logged after acceptance`, `wrong type`, `condition N` (the subelement's ID), `limit reached`, `reported`, or `refused N at P`"
 unfoldable pub explanation_line : Explanation → List ℕ

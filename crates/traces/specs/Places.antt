@@ -1,8 +1,17 @@
 -- Where the parts of a record end. 0 means refused, and what stands behind a refused part is refused.
 -- Assumes nothing.
-use Rattle.std.specs.Prelude.{ℕ, ◌+◌, ◌*◌, Bool, List, length, get_or, eqb, ltb}
+use Rattle.std.specs.Prelude.{ℕ, zero, suc, ◌+◌, ◌*◌, Bool, List, length, get_or, eqb, ltb, Option, None, Some}
 use Rattle.laws.specs.Choice.{when◌then◌else◌}
 use Rattle.octets.specs.Fields.{pair_at}
+
+-- what the code has of a part, by where it ends: nothing where it is refused
+abbrev pub unless_refused : {A : Type 0} → ℕ → A → Option A
+unless_refused zero part = None
+unless_refused (suc end) part = Some part
+
+-- and where it ends
+abbrev pub found : ℕ → Option ℕ
+found end = unless_refused end end
 
 -- so many octets from a position on; they do not pass the end of the input
 unfoldable pub place_behind_record : List ℕ → ℕ → ℕ → ℕ

@@ -1,6 +1,6 @@
 -- Records: where each ends, and its fields. The number of a record stands first; its fields follow, least octet first.
 -- Assumes nothing.
-use Rattle.std.specs.Prelude.{ℕ, zero, suc, ◌+◌, ◌*◌, Bool, not, ◌||◌, List, [], ◌∷◌, length, get_or, eqb, ltb, leb}
+use Rattle.std.specs.Prelude.{◌≡◌, ℕ, zero, suc, ◌+◌, ◌*◌, Bool, not, ◌||◌, List, [], ◌∷◌, length, get_or, eqb, ltb, leb}
 use Rattle.laws.specs.Choice.{when◌then◌else◌}
 use Rattle.octets.specs.Numbers.{kind_of}
 use Rattle.octets.specs.Fields.{pair_at, octets_at}
@@ -10,6 +10,8 @@ use Rattle.units.specs.declared.Milliseconds.{Milliseconds}
 use Rattle.events.specs.declared.times.Times.{Times}
 use Rattle.events.specs.declared.Transition.{Transition}
 use Rattle.events.specs.declared.PeerLink.{PeerLink}
+use Rattle.traces.specs.declared.places.RecordKind.{RecordKind}
+use Rattle.traces.specs.declared.places.RecordKind.TheVariants.{Setup, Clock, LogTransition, TakeFrame, Report, Roam, ChangeNetwork, LogRsna, LogPeerLink, WriteRequest, ReadReport, Explain}
 use Rattle.traces.specs.declared.calls.Span.{Span}
 use Rattle.traces.specs.declared.calls.SetupCall.{SetupCall}
 use Rattle.traces.specs.declared.calls.FrameCall.{FrameCall}
@@ -21,6 +23,26 @@ use Rattle.traces.specs.declared.calls.ReaderCall.{ReaderCall}
 use Rattle.traces.specs.declared.calls.ExplainCall.{ExplainCall}
 use Rattle.traces.specs.Places.{place_behind_record, bad_length, octets_end, list_end}
 use Rattle.traces.specs.Elements.{elements_at}
+
+-- ---- what a record is, by the number that stands in front
+
+abbrev pub number_of : RecordKind → ℕ
+number_of Setup = 0
+number_of Clock = 1
+number_of LogTransition = 2
+number_of TakeFrame = 3
+number_of Report = 4
+number_of Roam = 5
+number_of ChangeNetwork = 6
+number_of LogRsna = 7
+number_of LogPeerLink = 8
+number_of WriteRequest = 16
+number_of ReadReport = 17
+number_of Explain = 18
+
+-- no record has it
+abbrev pub IsUnknown : ℕ → Type 0
+IsUnknown number = (kind : RecordKind) → number_of kind ≡ number → ⊥
 
 -- ---- where a record's fields end; 0: refused
 

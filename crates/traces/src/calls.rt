@@ -1,10 +1,9 @@
 // The fields of each record; octets past the end of the input are 0.
 ghost use Rattle.std.specs.Prelude.{◌≡◌, ◌+◌, ◌≤◌, length};
-ghost use Rattle.octets.specs.Fields.{octets_at};
-ghost use Rattle.traces.specs.Records.{fields_of, milliseconds_at, times_at, requester_at, requesters_at, span_at, setup_fields, transition_fields, frame_fields, report_fields, move_fields, rsna_fields, peer_link_fields, writer_fields, reader_fields, explain_fields};
+ghost use Rattle.traces.specs.Records.{fields_of, milliseconds_at, times_at, requesters_at, span_at, setup_fields, transition_fields, frame_fields, report_fields, move_fields, rsna_fields, peer_link_fields, writer_fields, reader_fields, explain_fields};
 
 use events::{PeerLink, RsnaEvent, Times, Transition};
-use octets::{Kind, address_at, kind_of, octet, pair_at, read_at, time_at};
+use octets::{Kind, address_at, array_at, kind_of, least, octet, pair_at, time_at};
 use units::Milliseconds;
 
 // Octets of the input, from one position to another.
@@ -99,61 +98,22 @@ fn milliseconds_at(s: &[u8], at: usize) -> Milliseconds
     Milliseconds((pair_at(s, at) as u32) + 65536 * (pair_at(s, at + 2) as u32))
 }
 
-// So many octets at a position.
-fn three_at(s: &[u8], at: usize) -> [u8; 3]
-    ensures { result ≡ octets_at s.now at 3 }
-{
-    let mut o = [0u8; 3];
-    read_at(s, at, &mut o);
-    o
-}
-
-fn four_at(s: &[u8], at: usize) -> [u8; 4]
-    ensures { result ≡ octets_at s.now at 4 }
-{
-    let mut o = [0u8; 4];
-    read_at(s, at, &mut o);
-    o
-}
-
-fn five_at(s: &[u8], at: usize) -> [u8; 5]
-    ensures { result ≡ octets_at s.now at 5 }
-{
-    let mut o = [0u8; 5];
-    read_at(s, at, &mut o);
-    o
-}
-
-fn eight_at(s: &[u8], at: usize) -> [u8; 8]
-    ensures { result ≡ octets_at s.now at 8 }
-{
-    let mut o = [0u8; 8];
-    read_at(s, at, &mut o);
-    o
-}
-
-fn ten_at(s: &[u8], at: usize) -> [u8; 10]
-    ensures { result ≡ octets_at s.now at 10 }
-{
-    let mut o = [0u8; 10];
-    read_at(s, at, &mut o);
-    o
-}
-
 // An event's time fields: the time, TSF, UTC offset, event time error.
+#[tactic(auto, unfolding(crate::specs::Records::times_at))]
 fn times_at(s: &[u8], at: usize) -> Times
     requires { at ≤ length s.now + 4 }
     ensures { result ≡ times_at s.now at }
 {
     Times {
         time: time_at(s, at),
-        tsf: eight_at(s, at + 9),
-        offset: ten_at(s, at + 17),
-        error: five_at(s, at + 27),
+        tsf: array_at(s, at + 9),
+        offset: array_at(s, at + 17),
+        error: array_at(s, at + 27),
     }
 }
 
 // A length and so many octets.
+#[tactic(auto, unfolding(crate::specs::Records::span_at))]
 fn span_at(s: &[u8], at: usize) -> Span
     requires { at ≤ length s.now + 55 }
     ensures { (result ≡ span_at s.now at) × (result.to ≤ at + 65537) }
@@ -165,39 +125,16 @@ fn span_at(s: &[u8], at: usize) -> Span
     }
 }
 
-// An address and its form.
-fn requester_at(s: &[u8], at: usize) -> [u8; 7]
-    ensures { result ≡ requester_at s.now at }
-{
-    let mut requester = [0u8; 7];
-    read_at(s, at, &mut requester);
-    requester
-}
-
-// 255 requesters, one behind the other.
-fn read_requesters(s: &[u8], from: usize) -> [[u8; 7]; 255]
-    requires { from ≤ length s.now }
-    ensures { result ≡ requesters_at s.now 255 from }
-{
-    let mut list = [[0u8; 7]; 255];
-    let mut at = from;
-    let mut i: usize = 0;
-    while i < 255 {
-        list[i] = requester_at(s, at);
-        at += 7;
-        i += 1;
-    }
-    list
-}
-
-// The requesters at a position, as many as a record can have.
+// The requesters at a position, an address and its form each, as many as a record can have.
 pub fn requesters_at(s: &[u8], from: usize) -> [[u8; 7]; 255]
     ensures { result ≡ requesters_at s.now 255 from }
 {
-    if s.len() < from {
-        return read_requesters(s, s.len());
+    let first = least(from, s.len());
+    let mut list = [[0u8; 7]; 255];
+    for (i, requester) in list.iter_mut().enumerate() {
+        *requester = array_at(s, first + 7 * i);
     }
-    read_requesters(s, from)
+    list
 }
 
 // The reading that is the first field of a record.
@@ -207,19 +144,20 @@ pub fn reading_at(s: &[u8], at: usize) -> Milliseconds
     milliseconds_at(s, fields(s, at))
 }
 
+#[tactic(auto, unfolding(crate::specs::Records::setup_fields))]
 pub fn setup_at(s: &[u8], at: usize) -> SetupCall
     ensures { result ≡ setup_fields s.now (fields_of s.now at) }
 {
     let at = fields(s, at);
     let identity = span_at(s, at);
-    let to = identity.to;
     SetupCall {
         identity,
-        count: octet(s, to),
-        list: to + 1,
+        count: octet(s, identity.to),
+        list: identity.to + 1,
     }
 }
 
+#[tactic(auto, unfolding(crate::specs::Records::transition_fields))]
 pub fn transition_at(s: &[u8], at: usize) -> Transition
     ensures { result ≡ transition_fields s.now (fields_of s.now at) }
 {
@@ -230,11 +168,12 @@ pub fn transition_at(s: &[u8], at: usize) -> Transition
         target: address_at(s, at + 42),
         reason: octet(s, at + 48),
         result: pair_at(s, at + 49),
-        signals: four_at(s, at + 51),
+        signals: array_at(s, at + 51),
         departure: milliseconds_at(s, at + 55),
     }
 }
 
+#[tactic(auto, unfolding(crate::specs::Records::frame_fields))]
 pub fn frame_call_at(s: &[u8], at: usize) -> FrameCall
     ensures { result ≡ frame_fields s.now (fields_of s.now at) }
 {
@@ -247,6 +186,7 @@ pub fn frame_call_at(s: &[u8], at: usize) -> FrameCall
     }
 }
 
+#[tactic(auto, unfolding(crate::specs::Records::report_fields))]
 pub fn report_call_at(s: &[u8], at: usize) -> ReportCall
     ensures { result ≡ report_fields s.now (fields_of s.now at) }
 {
@@ -260,6 +200,7 @@ pub fn report_call_at(s: &[u8], at: usize) -> ReportCall
     }
 }
 
+#[tactic(auto, unfolding(crate::specs::Records::move_fields))]
 pub fn move_at(s: &[u8], at: usize) -> MoveCall
     ensures { result ≡ move_fields s.now (fields_of s.now at) }
 {
@@ -271,6 +212,7 @@ pub fn move_at(s: &[u8], at: usize) -> MoveCall
     }
 }
 
+#[tactic(auto, unfolding(crate::specs::Records::rsna_fields))]
 pub fn rsna_call_at(s: &[u8], at: usize) -> RsnaCall
     ensures { result ≡ rsna_fields s.now (fields_of s.now at) }
 {
@@ -279,14 +221,15 @@ pub fn rsna_call_at(s: &[u8], at: usize) -> RsnaCall
         event: RsnaEvent {
             times: times_at(s, at + 4),
             target: address_at(s, at + 36),
-            authentication: four_at(s, at + 42),
-            method: eight_at(s, at + 46),
+            authentication: array_at(s, at + 42),
+            method: array_at(s, at + 46),
             result: octet(s, at + 54),
         },
         rsn: span_at(s, at + 55),
     }
 }
 
+#[tactic(auto, unfolding(crate::specs::Records::peer_link_fields))]
 pub fn peer_link_at(s: &[u8], at: usize) -> PeerLink
     ensures { result ≡ peer_link_fields s.now (fields_of s.now at) }
 {
@@ -297,11 +240,12 @@ pub fn peer_link_at(s: &[u8], at: usize) -> PeerLink
         class: octet(s, at + 42),
         channel: octet(s, at + 43),
         power: octet(s, at + 44),
-        connection: three_at(s, at + 45),
+        connection: array_at(s, at + 45),
         status: octet(s, at + 48),
     }
 }
 
+#[tactic(auto, unfolding(crate::specs::Records::writer_fields))]
 pub fn writer_call_at(s: &[u8], at: usize) -> WriterCall
     ensures { result ≡ writer_fields s.now (fields_of s.now at) }
 {
@@ -316,6 +260,7 @@ pub fn writer_call_at(s: &[u8], at: usize) -> WriterCall
     }
 }
 
+#[tactic(auto, unfolding(crate::specs::Records::reader_fields))]
 pub fn reader_call_at(s: &[u8], at: usize) -> ReaderCall
     ensures { result ≡ reader_fields s.now (fields_of s.now at) }
 {
@@ -327,15 +272,15 @@ pub fn reader_call_at(s: &[u8], at: usize) -> ReaderCall
     }
 }
 
+#[tactic(auto, unfolding(crate::specs::Records::explain_fields))]
 pub fn explain_call_at(s: &[u8], at: usize) -> ExplainCall
     ensures { result ≡ explain_fields s.now (fields_of s.now at) }
 {
     let at = fields(s, at);
     let element = span_at(s, at);
-    let to = element.to;
     ExplainCall {
         element,
-        count: pair_at(s, to),
-        position: pair_at(s, to + 2),
+        count: pair_at(s, element.to),
+        position: pair_at(s, element.to + 2),
     }
 }

@@ -1,14 +1,14 @@
 // The elements of a request writer's record.
-ghost use Rattle.std.specs.Prelude.{◌≡◌, ◌≤◌, length, set};
-ghost use Rattle.traces.specs.Elements.{condition_table, traced_length, condition_end, traced_condition, with_condition, conditions_at, bad_value, limit_of, timeout_of, refused_element, traced_element_at, with_traced, elements_at};
+ghost use Rattle.std.specs.Prelude.{◌≡◌, ◌≤◌, ◌<◌, length, IfSome};
+ghost use Rattle.traces.specs.Places.{unless_refused, found};
+ghost use Rattle.traces.specs.Elements.{condition_table, traced_length, with_condition, conditions_at, bad_value, limit_of, timeout_of, traced_element_at, with_traced, elements_at};
 
 use crate::places::behind;
 use octets::{Kind, octet, pair_at, size};
 use requests::{ELEMENT_CAPACITY, Element, blank_element, blank_elements};
 use subelements::{Condition, TABLES, body, length_of};
 
-// The first conditions of an element, and where they end; 0: refused. The next ID is not below the least
-// one.
+// The first conditions of an element, and where they end. The next ID is not below the least one.
 #[derive(Clone, Copy)]
 struct Conditions {
     pub end: usize,
@@ -16,14 +16,14 @@ struct Conditions {
     pub filter: [Condition; 5],
 }
 
-// One element, and where it ends; 0: refused.
+// One element, and where it ends.
 #[derive(Clone, Copy)]
 struct Recorded {
     pub end: usize,
     pub element: Element,
 }
 
-// The first eight elements, and where all of them end; 0: refused.
+// The first eight elements, and where all of them end.
 #[derive(Clone, Copy)]
 pub struct Elements {
     pub end: usize,
@@ -43,73 +43,52 @@ fn condition_table(kind: Kind, ty: u8) -> usize
     }
 }
 
-// A condition's length: an EAP method is recorded in the length of one that starts with 254.
-fn traced_length(ty: usize, id: usize) -> usize
-    ensures { (result ≡ traced_length ty id) × (result ≤ 8) }
+// The length of a condition of an ID, where one has it: an EAP method is recorded in the length of one that
+// starts with 254.
+fn traced_length(ty: usize, id: usize) -> Option<usize>
+    ensures length { result ≡ found (traced_length ty id) }
+    ensures known { IfSome result (λ n. (n ≤ 8) × (id < 5)) }
 {
-    length_of(ty, id, 254)
-}
-
-// Where a condition ends whose ID is not below the least one.
-fn condition_end(s: &[u8], ty: usize, at: usize, least: usize) -> usize
-    requires { at ≤ length s.now }
-    ensures { result ≡ condition_end s.now ty at least }
-{
-    let id = size(s, at);
-    if id < least {
-        return 0;
-    }
-    let n = traced_length(ty, id);
+    let n = length_of(ty, id, 254);
     if n == 0 {
-        return 0;
+        return None;
     }
-    if size(s, at + 1) != n {
-        return 0;
-    }
-    behind(s, at, 2 + n)
+    Some(n)
 }
 
-fn condition_at(s: &[u8], ty: usize, at: usize) -> Condition
-    requires { at ≤ length s.now }
-    ensures { result ≡ traced_condition s.now ty at }
-{
-    let n = traced_length(ty, size(s, at));
-    Condition {
-        present: true,
-        octets: body(s, at + 2, n),
-    }
-}
-
-// With a condition in the place of its ID, where it is one of the first five.
-fn hold(filter: [Condition; 5], id: usize, condition: Condition) -> [Condition; 5]
-    ensures { result ≡ set filter id condition }
-{
-    let mut filter = filter;
-    if 5 <= id {
-        return filter;
-    }
-    filter[id] = condition;
-    filter
-}
-
-fn with_condition(s: &[u8], ty: usize, w: Conditions) -> Conditions
-    requires { w.end ≤ length s.now }
-    ensures { result ≡ with_condition s.now ty w }
+// One more condition, in the place of its ID.
+fn with_condition(s: &[u8], ty: usize, w: Conditions) -> Option<Conditions>
+    requires within { w.end ≤ length s.now }
+    requires place { 0 < w.end }
+    ensures { let more = with_condition s.now ty w in result ≡ unless_refused more.end more }
 {
     let at = w.end;
-    let filter = w.filter;
     let id = size(s, at);
-    Conditions {
-        end: condition_end(s, ty, at, w.least),
-        least: id + 1,
-        filter: hold(filter, id, condition_at(s, ty, at)),
+    if id < w.least {
+        return None;
     }
+    let n = traced_length(ty, id)?;
+    if size(s, at + 1) != n {
+        return None;
+    }
+    let end = behind(s, at, 2 + n)?;
+    let mut filter = w.filter;
+    filter[id] = Condition {
+        present: true,
+        octets: body(s, at + 2, n),
+    };
+    Some(Conditions {
+        end,
+        least: id + 1,
+        filter,
+    })
 }
 
 // So many conditions with rising IDs.
-fn conditions_at(s: &[u8], ty: usize, count: u8, from: usize) -> Conditions
-    requires { from ≤ length s.now }
-    ensures { result ≡ conditions_at s.now ty count from }
+fn conditions_at(s: &[u8], ty: usize, count: u8, from: usize) -> Option<Conditions>
+    requires within { from ≤ length s.now }
+    requires place { 0 < from }
+    ensures { let all = conditions_at s.now ty count from in result ≡ unless_refused all.end all }
 {
     let blank = blank_element();
     let filter = blank.filter;
@@ -118,12 +97,10 @@ fn conditions_at(s: &[u8], ty: usize, count: u8, from: usize) -> Conditions
         least: 0,
         filter,
     };
-    let mut i: u8 = 0;
-    while i < count {
-        w = with_condition(s, ty, w);
-        i += 1;
+    for _i in 0..count {
+        w = with_condition(s, ty, w)?;
     }
-    w
+    Some(w)
 }
 
 // A limit is below 256.
@@ -154,37 +131,20 @@ fn timeout_of(kind: Kind, value: u16) -> u16
     }
 }
 
-fn refused() -> Recorded
-    ensures { result ≡ refused_element }
-{
-    Recorded {
-        end: 0,
-        element: blank_element(),
-    }
-}
-
 // The element at a position: token, type, limit or timeout, conditions.
-fn element_at(s: &[u8], kind: Kind, at: usize) -> Recorded
-    ensures { result ≡ traced_element_at s.now kind at }
+fn element_at(s: &[u8], kind: Kind, at: usize) -> Option<Recorded>
+    requires { 0 < at }
+    ensures { let r = traced_element_at s.now kind at in result ≡ unless_refused r.end r }
 {
-    if s.len() <= at {
-        return refused();
-    }
-    let from = behind(s, at, 5);
-    if from == 0 {
-        return refused();
-    }
+    let from = behind(s, at, 5)?;
     let value = pair_at(s, at + 2);
     if bad_value(kind, value) {
-        return refused();
+        return None;
     }
     let ty = octet(s, at + 1);
-    let conditions = conditions_at(s, condition_table(kind, ty), octet(s, at + 4), from);
-    if conditions.end == 0 {
-        return refused();
-    }
+    let conditions = conditions_at(s, condition_table(kind, ty), octet(s, at + 4), from)?;
     let filter = conditions.filter;
-    Recorded {
+    Some(Recorded {
         end: conditions.end,
         element: Element {
             token: octet(s, at),
@@ -194,49 +154,38 @@ fn element_at(s: &[u8], kind: Kind, at: usize) -> Recorded
             timeout: timeout_of(kind, value),
             filter,
         },
-    }
+    })
 }
 
-// With an element in its place, where it is one of the first eight.
-fn keep(
-    elements: [Element; ELEMENT_CAPACITY],
-    i: u8,
-    element: Element,
-) -> [Element; ELEMENT_CAPACITY]
-    ensures { result ≡ set elements i element }
-{
-    let place = i as usize;
-    let mut elements = elements;
-    if ELEMENT_CAPACITY <= place {
-        return elements;
-    }
-    elements[place] = element;
-    elements
-}
-
+// One more element, in its place, where there is such a place.
+#[tactic(auto, using(std::proofs::lemmas::List::set_past), unfolding(crate::specs::Elements::with_traced))]
 fn with_element(w: Elements, i: u8, r: Recorded) -> Elements
     ensures { result ≡ with_traced w i r }
 {
-    let elements = w.elements;
-    let element = r.element;
+    let mut elements = w.elements;
+    let place = i as usize;
+    if place < elements.len() {
+        elements[place] = r.element;
+    }
     Elements {
         end: r.end,
-        elements: keep(elements, i, element),
+        elements,
     }
 }
 
-// So many elements from a position on.
-pub fn elements_at(s: &[u8], kind: Kind, count: u8, from: usize) -> Elements
-    ensures { result ≡ elements_at s.now kind count from }
+// So many elements from a position on; at 0 stands the number of a record, and no element.
+pub fn elements_at(s: &[u8], kind: Kind, count: u8, from: usize) -> Option<Elements>
+    ensures { let all = elements_at s.now kind count from in result ≡ unless_refused all.end all }
 {
+    if from == 0 {
+        return None;
+    }
     let mut w = Elements {
         end: from,
         elements: blank_elements(),
     };
-    let mut i: u8 = 0;
-    while i < count {
-        w = with_element(w, i, element_at(s, kind, w.end));
-        i += 1;
+    for i in 0..count {
+        w = with_element(w, i, element_at(s, kind, w.end)?);
     }
-    w
+    Some(w)
 }

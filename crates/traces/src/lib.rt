@@ -1,5 +1,5 @@
 // Traces: recorded lists of calls, as the program `replay` reads them, and the text of the answers.
-// Fields are least octet first. A position of 0 means refused, and so is what stands behind it.
+// Fields are least octet first.
 #![tactic(auto)]
 
 mod calls;
@@ -13,7 +13,7 @@ pub use calls::{
     report_call_at, requesters_at, rsna_call_at, setup_at, transition_at, writer_call_at,
 };
 pub use elements::{Elements, elements_at};
-pub use places::record_end;
+pub use places::{RecordKind, record_end, record_kind};
 pub use text::{
     BUFFER, BUFFER_LINE, LINE, put_answer, put_buffer, put_explanation, put_trace_refusal,
 };

@@ -1,7 +1,7 @@
-// Where each record ends; 0: refused.
-ghost use Rattle.std.specs.Prelude.{◌≡◌, ◌+◌, ◌≤◌, ◌<◌, length};
-ghost use Rattle.traces.specs.Places.{place_behind_record as places_behind, bad_length, octets_end, list_end};
-ghost use Rattle.traces.specs.Records.{report_call_end, good_action, writer_call_end, fields_end, record_end};
+// Where each record ends.
+ghost use Rattle.std.specs.Prelude.{◌≡◌, ◌+◌, ◌≤◌, ◌<◌, length, get_or, IfSome, MatchOption};
+ghost use Rattle.traces.specs.Places.{place_behind_record as places_behind, found, bad_length, octets_end, list_end};
+ghost use Rattle.traces.specs.Records.{number_of, IsUnknown, report_call_end, good_action, writer_call_end, fields_end, record_end};
 
 use crate::elements::elements_at;
 use octets::{kind_of, octet, pair_at, size};
@@ -9,20 +9,57 @@ use octets::{kind_of, octet, pair_at, size};
 // No length in a record is over this.
 const MOST: u16 = 4096;
 
-// Where so many octets from a position on end; behind what is refused, 0.
-pub(crate) fn behind(s: &[u8], at: usize, n: usize) -> usize
-    ensures { result ≡ places_behind s.now at n }
+// What a record is.
+#[derive(Clone, Copy)]
+pub enum RecordKind {
+    Setup,
+    Clock,
+    LogTransition,
+    TakeFrame,
+    Report,
+    Roam,
+    ChangeNetwork,
+    LogRsna,
+    LogPeerLink,
+    WriteRequest,
+    ReadReport,
+    Explain,
+}
+
+// What the record at a position is, by its number; nothing where no record has the number.
+pub fn record_kind(s: &[u8], at: usize) -> Option<RecordKind>
+    ensures { MatchOption result (IsUnknown (get_or s.now at 0)) (λ kind. number_of kind ≡ get_or s.now at 0) }
 {
-    if at == 0 {
-        return 0;
+    match octet(s, at) {
+        0 => Some(RecordKind::Setup),
+        1 => Some(RecordKind::Clock),
+        2 => Some(RecordKind::LogTransition),
+        3 => Some(RecordKind::TakeFrame),
+        4 => Some(RecordKind::Report),
+        5 => Some(RecordKind::Roam),
+        6 => Some(RecordKind::ChangeNetwork),
+        7 => Some(RecordKind::LogRsna),
+        8 => Some(RecordKind::LogPeerLink),
+        16 => Some(RecordKind::WriteRequest),
+        17 => Some(RecordKind::ReadReport),
+        18 => Some(RecordKind::Explain),
+        _ => None,
     }
+}
+
+// Where so many octets from a position on end.
+pub(crate) fn behind(s: &[u8], at: usize, n: usize) -> Option<usize>
+    requires { 0 < at }
+    ensures place { result ≡ found (places_behind s.now at n) }
+    ensures within { IfSome result (λ end. (end ≡ at + n) × (end ≤ length s.now)) }
+{
     if s.len() < at {
-        return 0;
+        return None;
     }
     if s.len() - at < n {
-        return 0;
+        return None;
     }
-    at + n
+    Some(at + n)
 }
 
 fn bad_length(s: &[u8], at: usize) -> bool
@@ -32,32 +69,37 @@ fn bad_length(s: &[u8], at: usize) -> bool
 }
 
 // A length and so many octets.
-fn octets_end(s: &[u8], at: usize) -> usize
-    ensures { result ≡ octets_end s.now at }
+fn octets_end(s: &[u8], at: usize) -> Option<usize>
+    requires { 0 < at }
+    ensures { result ≡ found (octets_end s.now at) }
 {
     if bad_length(s, at) {
-        return 0;
+        return None;
     }
-    behind(s, behind(s, at, 2), pair_at(s, at) as usize)
+    let from = behind(s, at, 2)?;
+    behind(s, from, pair_at(s, at) as usize)
 }
 
 // A number of requesters and so many of them.
-fn list_end(s: &[u8], at: usize) -> usize
-    ensures { result ≡ list_end s.now at }
+fn list_end(s: &[u8], at: usize) -> Option<usize>
+    requires { 0 < at }
+    ensures { result ≡ found (list_end s.now at) }
 {
-    behind(s, behind(s, at, 1), 7 * size(s, at))
+    let from = behind(s, at, 1)?;
+    behind(s, from, 7 * size(s, at))
 }
 
 // The fields of a report call.
-fn report_call_end(s: &[u8], at: usize) -> usize
-    requires { at ≤ length s.now }
-    ensures { result ≡ report_call_end s.now at }
+fn report_call_end(s: &[u8], at: usize) -> Option<usize>
+    requires within { at ≤ length s.now }
+    requires place { 0 < at }
+    ensures { result ≡ found (report_call_end s.now at) }
 {
     if 1 < octet(s, at + 10) {
-        return 0;
+        return None;
     }
     if bad_length(s, at + 11) {
-        return 0;
+        return None;
     }
     behind(s, at, 14)
 }
@@ -65,56 +107,56 @@ fn report_call_end(s: &[u8], at: usize) -> usize
 fn good_action(action: u8) -> bool
     ensures { result ≡ good_action action }
 {
-    if action == 0 {
-        return true;
-    }
-    action == 2
+    action == 0 || action == 2
 }
 
 // The fields of a request writer's call, with its elements.
-fn writer_call_end(s: &[u8], at: usize) -> usize
-    requires { at ≤ length s.now }
-    ensures { result ≡ writer_call_end s.now at }
+fn writer_call_end(s: &[u8], at: usize) -> Option<usize>
+    requires within { at ≤ length s.now }
+    requires place { 0 < at }
+    ensures { result ≡ found (writer_call_end s.now at) }
 {
     if bad_length(s, at) {
-        return 0;
+        return None;
     }
     let action = octet(s, at + 3);
     if !good_action(action) {
-        return 0;
+        return None;
     }
-    let w = elements_at(s, kind_of(action), octet(s, at + 5), behind(s, at, 6));
-    w.end
+    let from = behind(s, at, 6)?;
+    let w = elements_at(s, kind_of(action), octet(s, at + 5), from)?;
+    Some(w.end)
 }
 
-// The fields of a record of a number.
-fn fields_end(s: &[u8], number: u8, at: usize) -> usize
-    requires { at ≤ length s.now }
-    ensures { result ≡ fields_end s.now number at }
+// The fields of a record.
+fn fields_end(s: &[u8], kind: RecordKind, at: usize) -> Option<usize>
+    requires within { at ≤ length s.now }
+    requires place { 0 < at }
+    ensures { result ≡ found (fields_end s.now (number_of kind) at) }
 {
-    match number {
-        0 => list_end(s, octets_end(s, at)),
-        1 => behind(s, at, 4),
-        2 => behind(s, at, 59),
-        3 => octets_end(s, behind(s, at, 16)),
-        4 => report_call_end(s, at),
-        5 => list_end(s, behind(s, at, 4)),
-        6 => list_end(s, behind(s, at, 4)),
-        7 => octets_end(s, behind(s, at, 55)),
-        8 => behind(s, at, 49),
-        16 => writer_call_end(s, at),
-        17 => octets_end(s, behind(s, at, 7)),
-        18 => behind(s, octets_end(s, at), 4),
-        _ => 0,
+    match kind {
+        RecordKind::Setup => list_end(s, octets_end(s, at)?),
+        RecordKind::Clock => behind(s, at, 4),
+        RecordKind::LogTransition => behind(s, at, 59),
+        RecordKind::TakeFrame => octets_end(s, behind(s, at, 16)?),
+        RecordKind::Report => report_call_end(s, at),
+        RecordKind::Roam => list_end(s, behind(s, at, 4)?),
+        RecordKind::ChangeNetwork => list_end(s, behind(s, at, 4)?),
+        RecordKind::LogRsna => octets_end(s, behind(s, at, 55)?),
+        RecordKind::LogPeerLink => behind(s, at, 49),
+        RecordKind::WriteRequest => writer_call_end(s, at),
+        RecordKind::ReadReport => octets_end(s, behind(s, at, 7)?),
+        RecordKind::Explain => behind(s, octets_end(s, at)?, 4),
     }
 }
 
-// Where the record at a position ends; 0 where it is cut, unknown, or has a field out of its range.
-pub fn record_end(s: &[u8], at: usize) -> usize
-    ensures { result ≡ record_end s.now at }
+// Where the record at a position ends; nowhere where it is cut, unknown, or has a field out of its range.
+pub fn record_end(s: &[u8], at: usize) -> Option<usize>
+    ensures { result ≡ found (record_end s.now at) }
 {
     if s.len() <= at {
-        return 0;
+        return None;
     }
-    fields_end(s, octet(s, at), at + 1)
+    let kind = record_kind(s, at)?;
+    fields_end(s, kind, at + 1)
 }

@@ -1,13 +1,14 @@
 // The lines of answers, explanations and lent buffers, each whole into an array that has room for every one of them.
 ghost use Rattle.std.specs.Prelude.{◌≡◌, ◌+◌, ◌*◌, length, take};
 ghost use Rattle.laws.specs.Buffers.{wrote};
+ghost use Rattle.explanations.specs.Explanations.{reason_given, explanation_read};
 ghost use Rattle.texts.specs.Text.{Puts, written, Within};
 ghost use Rattle.traces.specs.Lines.{number_line, answer_line, explanation_line, trace_refusal_line, octets_text, buffer_line, line_most, buffer_line_most};
 
 use explanations::Explanation;
-use octets::{least, put};
+use octets::{Refusal, least, put};
 use requesters::Answer;
-use texts::{put_hexes, put_refusal, put_size};
+use texts::{put_field, put_hexes, put_refusal};
 
 // What the line of an answer, of an explanation or of a trace that is refused has at most.
 pub const LINE: usize = 38;
@@ -21,13 +22,13 @@ pub const BUFFER_LINE: usize = 7 + 2 * BUFFER + 1;
 fn put_line(buf: &mut [u8], name: &[u8], n: usize) -> usize
     ensures { Puts (length name.now + 20 + 1) (number_line name.now n) 0 buf.old result buf.new }
 {
-    let next = put_size(buf, 0, name, n);
+    let next = put_field(buf, 0, name, n);
     put(buf, next, b"\n")
 }
 
 // The line of an answer; its length.
 pub fn put_answer(line: &mut [u8; LINE], answer: Answer) -> usize
-    ensures line_after { wrote result line.new ≡ written (answer_line answer) line.old }
+    ensures text { wrote result line.new ≡ written (answer_line answer) line.old }
     ensures within { Within line_most result line.new }
 {
     match answer {
@@ -38,13 +39,12 @@ pub fn put_answer(line: &mut [u8; LINE], answer: Answer) -> usize
     }
 }
 
-// The line of an explanation; its length.
-pub fn put_explanation(line: &mut [u8; LINE], e: Explanation) -> usize
-    ensures line_after { wrote result line.new ≡ written (explanation_line e) line.old }
+// The line of a reason.
+fn put_reason(line: &mut [u8; LINE], e: Explanation) -> usize
+    ensures text { wrote result line.new ≡ written (explanation_line (reason_given e)) line.old }
     ensures within { Within line_most result line.new }
 {
     match e {
-        Explanation::Refused(refusal) => put_refusal(line, 0, refusal),
         Explanation::LoggedAfter => put(line, 0, b"logged after acceptance\n"),
         Explanation::WrongType => put(line, 0, b"wrong type\n"),
         Explanation::Unmet(id) => put_line(line, b"condition ", id as usize),
@@ -53,9 +53,20 @@ pub fn put_explanation(line: &mut [u8; LINE], e: Explanation) -> usize
     }
 }
 
+// The line of an explanation, or of the refusal of what it was asked for; its length.
+pub fn put_explanation(line: &mut [u8; LINE], e: Result<Explanation, Refusal>) -> usize
+    ensures text { wrote result line.new ≡ written (explanation_line (explanation_read e)) line.old }
+    ensures within { Within line_most result line.new }
+{
+    match e {
+        Ok(reason) => put_reason(line, reason),
+        Err(refusal) => put_refusal(line, 0, refusal),
+    }
+}
+
 // The line of a trace that is refused at a place.
 pub fn put_trace_refusal(line: &mut [u8; LINE], place: usize) -> usize
-    ensures line_after { wrote result line.new ≡ written (trace_refusal_line place) line.old }
+    ensures text { wrote result line.new ≡ written (trace_refusal_line place) line.old }
     ensures within { Within line_most result line.new }
 {
     put_line(line, b"trace refused at ", place)
@@ -71,7 +82,7 @@ fn put_octets(line: &mut [u8], at: usize, o: &[u8], n: usize) -> usize
 
 // The line of the first n octets of a buffer.
 pub fn put_buffer(line: &mut [u8; BUFFER_LINE], buf: &[u8; BUFFER], n: usize) -> usize
-    ensures line_after { wrote result line.new ≡ written (buffer_line (take n buf.now)) line.old }
+    ensures text { wrote result line.new ≡ written (buffer_line (take n buf.now)) line.old }
     ensures within { Within buffer_line_most result line.new }
 {
     let next = put(line, 0, b"buffer ");

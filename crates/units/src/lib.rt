@@ -7,17 +7,17 @@ ghost use Rattle.units.specs.Time.{age, advance, elapsed_since, exceeds, tus_of,
 
 // Milliseconds of the 32-bit counter (document 01: a reading, the difference of two, or a limit).
 #[repr(C)]
-#[derive(Clone, Copy)]
+#[derive(Clone, Copy, PartialEq, Eq, PartialOrd, Ord)]
 pub struct Milliseconds(pub u32);
 
 // Milliseconds since a gate's first call (document 02 (c): a stamp or an acceptance time), or between two such times.
 #[repr(C)]
-#[derive(Clone, Copy)]
+#[derive(Clone, Copy, PartialEq, Eq, PartialOrd, Ord)]
 pub struct Elapsed(pub u64);
 
 // Time units of 1,024 microseconds (document 01: TUs).
 #[repr(C)]
-#[derive(Clone, Copy)]
+#[derive(Clone, Copy, PartialEq, Eq, PartialOrd, Ord)]
 pub struct TimeUnits(pub u16);
 
 impl Milliseconds {
@@ -32,62 +32,62 @@ impl Milliseconds {
         Milliseconds(self.0.wrapping_sub(earlier.0))
     }
 
+    // A product each: a function over the unit would be a third one, with a bound that these two must meet.
     pub fn from_seconds(n: u16) -> Milliseconds
         ensures { result.0 ≡ n * 1000 }
     {
-        Milliseconds((n as u32) * Milliseconds::SECOND)
+        Milliseconds(u32::from(n) * Milliseconds::SECOND)
     }
 
     pub fn from_minutes(n: u16) -> Milliseconds
         ensures { result.0 ≡ n * 60000 }
     {
-        Milliseconds((n as u32) * Milliseconds::MINUTE)
+        Milliseconds(u32::from(n) * Milliseconds::MINUTE)
+    }
+}
+
+impl From<Milliseconds> for Elapsed {
+    ghost from_gives = { λ x y. y.0 ≡ x.0 };
+
+    fn from(age: Milliseconds) -> Elapsed {
+        Elapsed(u64::from(age.0))
     }
 }
 
 impl Elapsed {
-    const TOP: u64 = 18446744073709551615;
-
-    // So many milliseconds later; TOP where that would pass it.
+    // So many milliseconds later; the top where that would pass it.
     pub fn advance(self, by: Milliseconds) -> Elapsed
         ensures { result.0 ≡ advance self.0 by.0 }
     {
-        let more = by.0 as u64;
-        if Elapsed::TOP - self.0 < more {
-            return Elapsed(Elapsed::TOP);
-        }
-        Elapsed(self.0 + more)
+        Elapsed(self.0.saturating_add(u64::from(by.0)))
     }
 
     // The age between this time and an earlier one; 0 where that is not earlier.
     pub fn since(self, earlier: Elapsed) -> Elapsed
         ensures { result.0 ≡ elapsed_since self.0 earlier.0 }
     {
-        if self.0 < earlier.0 {
-            return Elapsed(0);
-        }
-        Elapsed(self.0 - earlier.0)
+        Elapsed(self.0.saturating_sub(earlier.0))
     }
 
     // The time so long before this one; 0 where that would be before the first call.
     pub fn before(self, by: Milliseconds) -> Elapsed
         ensures { result.0 ≡ elapsed_since self.0 by.0 }
     {
-        self.since(Elapsed(by.0 as u64))
+        self.since(Elapsed::from(by))
     }
 
     // Is this age more than a limit?
     pub fn exceeds(self, limit: Milliseconds) -> bool
         ensures { result ≡ exceeds self.0 limit.0 }
     {
-        (limit.0 as u64) < self.0
+        Elapsed::from(limit) < self
     }
 
     // Is this time at or after another?
     pub fn at_least(self, earliest: Elapsed) -> bool
         ensures { result ≡ at_least self.0 earliest.0 }
     {
-        earliest.0 <= self.0
+        earliest <= self
     }
 }
 
@@ -103,7 +103,7 @@ impl TimeUnits {
     const SPAN: u64 = 65536;
 
     // The one conversion: rounded down, and MOST where it is more. `over` is 1 there and 0 elsewhere, so
-    // that every age takes the same path (document 02, (b)).
+    // that every age takes the same path, and no function of a library is called (document 02, (b)): hence `as`.
     pub fn from_milliseconds(age: Milliseconds) -> TimeUnits
         ensures { result.0 ≡ tus_of age.0 }
     {
@@ -116,6 +116,6 @@ impl TimeUnits {
     pub fn at_least(self, threshold: TimeUnits) -> bool
         ensures { result ≡ at_least self.0 threshold.0 }
     {
-        threshold.0 <= self.0
+        threshold <= self
     }
 }

@@ -64,7 +64,8 @@ impl<'a> Text<'a> {
         let names = self.words[at + 1..end].iter().flat_map(|word| word.split(splits));
         let ty = names.filter(|name| !name.is_empty()).collect();
         let lines = self.count(at, end);
-        Ok((Definition { name: self.word(at), ty, lines, ..Definition::default() }, end))
+        let name = self.word(at).split('<').next().unwrap_or_default();
+        Ok((Definition { name, ty, lines, ..Definition::default() }, end))
     }
 
     /// Is the `fn` at a place `pub`, and not `pub(crate)`?

@@ -49,8 +49,12 @@ fn is_proof_module(text: &str) -> bool {
 }
 
 fn statement(text: &str) -> Result<(Origin<'_>, Vec<Import<'_>>), String> {
-    let (path, names) = text.split_once(".{").unwrap_or((text, ""));
     let line = text.lines().next().unwrap_or_default();
+    let (path, names) = if let Some((path, _)) = line.split_once(".TheVariants as ") {
+        (&line[..path.len() + ".TheVariants".len()], "")
+    } else {
+        text.split_once(".{").unwrap_or((text, ""))
+    };
     let origin = origin(path).ok_or_else(|| format!("an import that is not understood: {line}"))?;
     let names = names.split('}').next().unwrap_or_default();
     Ok((origin, names.split(',').map(str::trim).filter(|name| !name.is_empty()).map(import).collect()))

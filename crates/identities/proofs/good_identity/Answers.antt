@@ -1,14 +1,14 @@
--- `station::good_identity` meets its contract.
+-- `identities::good_identity` meets its contract.
 -- Assumes nothing.
-use borrow.Author.Tests.{lt-ltb, le-ltb}
+use borrow.Author.Tests.{lt-ltb, le-ltb, lt-leb}
 use Rattle.laws.specs.Choice.{when◌then◌else◌}
 use Rattle.identities.specs.Identity.{good_identity}
 use Rattle.identities.proofs.good_identity.Goals as goal
 
-pub returns-then-s-gt252 : goal.returns-then-s-gt252
+pub returns-then-s-le-LONGEST : goal.returns-then-s-le-LONGEST
 unfolding good_identity when◌then◌else◌
-returns-then-s-gt252 c = rw (lt-ltb _ _ c.if-s-gt252.true)
+returns-then-s-le-LONGEST c = rw (le-ltb 252 _ c.if-s-le-LONGEST.true) c.pass_rows.ensures
 
-pub returns : goal.returns
+pub returns-else-s-le-LONGEST : goal.returns-else-s-le-LONGEST
 unfolding good_identity when◌then◌else◌
-returns c = rw (le-ltb _ _ c.if-s-gt252.false) c.pass_rows.ensures
+returns-else-s-le-LONGEST c = rw (lt-leb _ _ c.if-s-le-LONGEST.false, lt-ltb 252 _ c.if-s-le-LONGEST.false)

@@ -1,16 +1,14 @@
 -- `identities::pass_rows` meets its contract. The invariant: the rows left give what the table gives.
 -- Assumes nothing.
-use mathlib.Core.Path.{sym, ◌∙◌}
-use native.Mathlib.Omega.{arith}
-use borrow.Author.Tests.{not-true, not-false}
+use Rattle.std.proofs.Common.{refl, sym, ◌∙◌}
 use Rattle.identities.proofs.Laws.{rows_next, rows_stop, rows_end}
 use Rattle.identities.proofs.pass_rows.Goals as goal
 
-pub returns-then-not-w : goal.returns-then-not-w
-returns-then-not-w c = let l = c.loop-i in rows_stop _ l.at l.i c.loop-i-test.true c.row_at.ensures c.pass_row-w.ensures (not-true _ c.if-not-w.true) ∙ l.invariant.1
+pub returns-in_default : goal.returns-in_default
+returns-in_default c = let l = c.loop-row in rows_stop _ l.at l.row-index c.loop-row-test.true refl c.in_default.ensures refl ∙ l.invariant
 
-pub loop-i-preserved : goal.loop-i-preserved
-loop-i-preserved c = let l = c.loop-i in (omega arith, rows_next _ l.at l.i c.loop-i-test.true c.row_at.ensures c.pass_row-w.ensures (not-false _ c.if-not-w.false) ∙ l.invariant.1)
+pub loop-row-preserved : goal.loop-row-preserved
+loop-row-preserved c = let l = c.loop-row in rows_next _ l.at l.row-index c.loop-row-test.true refl c.in-Some.ensures refl ∙ l.invariant
 
 pub returns : goal.returns
-returns c = let l = c.loop-i in sym (rows_end _ l.at l.i c.loop-i-test.false) ∙ l.invariant.1
+returns c = let l = c.loop-row in sym (rows_end _ l.at l.row-index c.loop-row-test.false) ∙ l.invariant

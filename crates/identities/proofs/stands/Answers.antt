@@ -4,10 +4,10 @@ use borrow.Author.Tests.{lt-ltb, le-ltb}
 use Rattle.identities.specs.Identity.{stands}
 use Rattle.identities.proofs.stands.Goals as goal
 
-pub returns-then-s-at : goal.returns-then-s-at
+pub returns-then-at-s : goal.returns-then-at-s
 unfolding stands
-returns-then-s-at c = rw (le-ltb _ _ c.if-s-at.true)
+returns-then-at-s c = rw (lt-ltb _ _ c.if-at-s.true, c.octet.ensures)
 
-pub returns : goal.returns
+pub returns-else-at-s : goal.returns-else-at-s
 unfolding stands
-returns c = rw (lt-ltb _ _ c.if-s-at.false, c.octet.ensures)
+returns-else-at-s c = rw (le-ltb _ _ c.if-at-s.false)

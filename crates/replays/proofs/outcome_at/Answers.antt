@@ -1,51 +1,62 @@
--- `replays::outcome_at` meets its contract: the number of the record picks its call.
+-- `replays::outcome_at` meets its contract: what the record is picks its call.
 -- Assumes nothing.
-use mathlib.Core.Path.{refl}
-use mathlib.Core.List.{[]}
-use native.Mathlib.Omega.{arith}
-use borrow.Author.Tests.{ne_eqb}
+use Rattle.std.proofs.Common.{◌≡◌, refl, sym, [], ne_eqb, get_or}
 use Rattle.laws.specs.Choice.{when◌then◌else◌}
+use Rattle.traces.specs.declared.places.RecordKind.TheVariants.{Setup, Clock, LogTransition, TakeFrame, Report, Roam, ChangeNetwork, LogRsna, LogPeerLink}
+use Rattle.traces.specs.Records.{IsUnknown}
 use Rattle.replays.specs.Replay.{station_after}
 use Rattle.replays.proofs.Laws.{leaves}
 use Rattle.replays.proofs.outcome_at.Goals as goal
 
-pub returns-in-0 : goal.returns-in-0
+pub returns-in-Some-Setup : goal.returns-in-Some-Setup
 unfolding station_after when◌then◌else◌
-returns-in-0 c = rw (← c.octet.ensures, c.in-0.is) (leaves _ _ [] _ refl c.set_up.ensures)
+returns-in-Some-Setup c = rw (← c.in-Some-Setup.ensures, c.in-Some-Setup.field-0-is) (leaves _ _ [] _ refl c.set_up.ensures)
 
-pub returns-in-1 : goal.returns-in-1
+pub returns-in-Some-Clock : goal.returns-in-Some-Clock
 unfolding station_after when◌then◌else◌
-returns-in-1 c = rw (← c.octet.ensures, c.in-1.is) (leaves _ _ [] _ refl c.tick.ensures)
+returns-in-Some-Clock c = rw (← c.in-Some-Clock.ensures, c.in-Some-Clock.field-0-is) (leaves _ _ [] _ refl c.tick.ensures)
 
-pub returns-in-2 : goal.returns-in-2
+pub returns-in-Some-LogTransition : goal.returns-in-Some-LogTransition
 unfolding station_after when◌then◌else◌
-returns-in-2 c = rw (← c.octet.ensures, c.in-2.is) (leaves _ _ [] _ refl c.log_transition.ensures)
+returns-in-Some-LogTransition c = rw (← c.in-Some-LogTransition.ensures, c.in-Some-LogTransition.field-0-is) (leaves _ _ [] _ refl c.log_transition.ensures)
 
-pub returns-in-3 : goal.returns-in-3
+pub returns-in-Some-TakeFrame : goal.returns-in-Some-TakeFrame
 unfolding station_after when◌then◌else◌
-returns-in-3 c = rw (← c.octet.ensures, c.in-3.is) (leaves _ _ [] _ refl c.take_frame.ensures)
+returns-in-Some-TakeFrame c = rw (← c.in-Some-TakeFrame.ensures, c.in-Some-TakeFrame.field-0-is) (leaves _ _ [] _ refl c.take_frame.ensures)
 
-pub returns-in-4 : goal.returns-in-4
+pub returns-in-Some-Report : goal.returns-in-Some-Report
 unfolding station_after when◌then◌else◌
-returns-in-4 c = rw (← c.octet.ensures, c.in-4.is) c.report_at-r.ensures
+returns-in-Some-Report c = rw (← c.in-Some-Report.ensures, c.in-Some-Report.field-0-is) c.report_at.ensures
 
-pub returns-in-5 : goal.returns-in-5
+pub returns-in-Some-Roam : goal.returns-in-Some-Roam
 unfolding station_after when◌then◌else◌
-returns-in-5 c = rw (← c.octet.ensures, c.in-5.is) (leaves _ _ [] _ refl c.roam.ensures)
+returns-in-Some-Roam c = rw (← c.in-Some-Roam.ensures, c.in-Some-Roam.field-0-is) (leaves _ _ [] _ refl c.roam.ensures)
 
-pub returns-in-6 : goal.returns-in-6
+pub returns-in-Some-ChangeNetwork : goal.returns-in-Some-ChangeNetwork
 unfolding station_after when◌then◌else◌
-returns-in-6 c = rw (← c.octet.ensures, c.in-6.is) (leaves _ _ [] _ refl c.change_network.ensures)
+returns-in-Some-ChangeNetwork c = rw (← c.in-Some-ChangeNetwork.ensures, c.in-Some-ChangeNetwork.field-0-is) (leaves _ _ [] _ refl c.change_network.ensures)
 
-pub returns-in-7 : goal.returns-in-7
+pub returns-in-Some-LogRsna : goal.returns-in-Some-LogRsna
 unfolding station_after when◌then◌else◌
-returns-in-7 c = rw (← c.octet.ensures, c.in-7.is) (leaves _ _ [] _ refl c.log_rsna.ensures)
+returns-in-Some-LogRsna c = rw (← c.in-Some-LogRsna.ensures, c.in-Some-LogRsna.field-0-is) (leaves _ _ [] _ refl c.log_rsna.ensures)
 
-pub returns-in-8 : goal.returns-in-8
+pub returns-in-Some-LogPeerLink : goal.returns-in-Some-LogPeerLink
 unfolding station_after when◌then◌else◌
-returns-in-8 c = rw (← c.octet.ensures, c.in-8.is) (leaves _ _ [] _ refl c.log_peer_link.ensures)
+returns-in-Some-LogPeerLink c = rw (← c.in-Some-LogPeerLink.ensures, c.in-Some-LogPeerLink.field-0-is) (leaves _ _ [] _ refl c.log_peer_link.ensures)
 
-pub returns-in_default : goal.returns-in_default
+pub returns-in-Some-WriteRequest : goal.returns-in-Some-WriteRequest
 unfolding station_after when◌then◌else◌
-returns-in_default c = let n = c.octet.result in
-    rw (← c.octet.ensures, ne_eqb n 0 (omega arith), ne_eqb n 1 (omega arith), ne_eqb n 2 (omega arith), ne_eqb n 3 (omega arith), ne_eqb n 4 (omega arith), ne_eqb n 5 (omega arith), ne_eqb n 6 (omega arith), ne_eqb n 7 (omega arith), ne_eqb n 8 (omega arith))
+returns-in-Some-WriteRequest c = rw (← c.in-Some-WriteRequest.ensures, c.in-Some-WriteRequest.field-0-is, c.unmoved.ensures)
+
+pub returns-in-Some-ReadReport : goal.returns-in-Some-ReadReport
+unfolding station_after when◌then◌else◌
+returns-in-Some-ReadReport c = rw (← c.in-Some-ReadReport.ensures, c.in-Some-ReadReport.field-0-is, c.unmoved-in-Some-ReadReport.ensures)
+
+pub returns-in-Some-Explain : goal.returns-in-Some-Explain
+unfolding station_after when◌then◌else◌
+returns-in-Some-Explain c = rw (← c.in-Some-Explain.ensures, c.in-Some-Explain.field-0-is, c.unmoved-in-Some-Explain.ensures)
+
+pub returns-in-None : goal.returns-in-None
+unfolding station_after when◌then◌else◌
+returns-in-None c = let n = get_or c.args.s.now c.args.at 0 in let un : IsUnknown n = c.in-None.ensures in
+    rw (ne_eqb n 0 (λ (e : n ≡ 0). un Setup (sym e)), ne_eqb n 1 (λ (e : n ≡ 1). un Clock (sym e)), ne_eqb n 2 (λ (e : n ≡ 2). un LogTransition (sym e)), ne_eqb n 3 (λ (e : n ≡ 3). un TakeFrame (sym e)), ne_eqb n 4 (λ (e : n ≡ 4). un Report (sym e)), ne_eqb n 5 (λ (e : n ≡ 5). un Roam (sym e)), ne_eqb n 6 (λ (e : n ≡ 6). un ChangeNetwork (sym e)), ne_eqb n 7 (λ (e : n ≡ 7). un LogRsna (sym e)), ne_eqb n 8 (λ (e : n ≡ 8). un LogPeerLink (sym e)), c.unmoved-in-None.ensures)

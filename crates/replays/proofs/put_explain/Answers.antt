@@ -1,14 +1,17 @@
 -- `replays::put_explain` meets its contract.
 -- Assumes nothing.
-use borrow.Author.Tests.{eq-eqb, ne_eqb}
+use Rattle.std.proofs.Common.{arith, ne_eqb}
 use Rattle.laws.specs.Choice.{when◌then◌else◌}
+use Rattle.traces.proofs.WalkLaws.{some_found, none_found}
+use Rattle.traces.specs.Records.{record_end}
 use Rattle.replays.specs.Replay.{explain_line}
 use Rattle.replays.proofs.put_explain.Goals as goal
 
-pub returns-then-end-eq0-clause-line_after : goal.returns-then-end-eq0-clause-line_after
+pub returns-in_default-clause-text : goal.returns-in_default-clause-text
 unfolding explain_line when◌then◌else◌
-returns-then-end-eq0-clause-line_after c = rw (← c.record_end-end.ensures, eq-eqb _ 0 c.if-end-eq0.true) c.put_trace_refusal.ensures.line_after
+returns-in_default-clause-text c = rw (none_found _ c.in_default.ensures) c.put_trace_refusal.ensures.text
 
-pub returns-clause-line_after : goal.returns-clause-line_after
+pub returns-clause-text : goal.returns-clause-text
 unfolding explain_line when◌then◌else◌
-returns-clause-line_after c = rw (← c.record_end-end.ensures, ne_eqb _ 0 c.if-end-eq0.false, ← c.part.ensures) c.put_explained.ensures.line_after
+returns-clause-text c = let is = some_found c.in-Some.ensures in
+    rw (ne_eqb (record_end c.args.s.now 0) 0 (omega (arith, is.1)), ← is.0, ← c.part.ensures) c.put_explained.ensures.text

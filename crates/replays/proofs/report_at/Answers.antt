@@ -1,7 +1,7 @@
 -- `replays::report_at` meets its contract.
 -- Assumes nothing.
-use mathlib.Core.Path.{refl}
-use lib.ListN.{replicate, length-replicate}
+use Rattle.std.proofs.Common.{refl, replicate}
+use Rattle.std.proofs.lemmas.List.{length-replicate}
 use Rattle.laws.proofs.Arrays.{take_within}
 use Rattle.traces.specs.Places.{longest_length}
 use Rattle.replays.proofs.Laws.{leaves}
@@ -9,5 +9,5 @@ use Rattle.replays.proofs.report_at.Goals as goal
 
 pub returns : goal.returns
 returns c = let call = c.report_call_at-c.result in
-    let lent = take_within (replicate longest_length call.fill) longest_length c.least-n.result (length-replicate longest_length call.fill) call.length c.least-n.ensures in
-    rw (← c.report_call_at-c.ensures) (leaves _ _ _ _ refl (rw lent at c.report_into-outcome.ensures))
+    let lent = take_within (replicate longest_length call.fill) longest_length c.least-length.result (length-replicate longest_length call.fill) call.length c.least-length.ensures in
+    rw (← c.report_call_at-c.ensures) (leaves _ _ _ _ refl (rw lent at c.report-outcome.ensures))

@@ -6,4 +6,4 @@ use Rattle.report_listing.proofs.put_head.Goals as goal
 
 pub returns : goal.returns
 unfolding head_text
-returns c = both (rw c.report_id.ensures at c.put_element_head-next.ensures) (short (c.put_octet.ensures.buf_after, c.put_octet.ensures.n_in_bounds))
+returns c = both (rw c.report_id.ensures at c.put_element_head-next.ensures) (short c.put_field.ensures)

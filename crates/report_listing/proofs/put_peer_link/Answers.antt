@@ -15,4 +15,4 @@ returns c = let e = c.args.e in
     let six : length e.peer ≡ 6 = search (rules, c.well_formed) in
     rw (← c.three.ensures)
     (at_most event_most (omega (arith, six))
-    (both (both (both (both (both (both c.put_times-next.ensures c.put_colons-next.ensures) (short (c.put_octet-next.ensures.buf_after, c.put_octet-next.ensures.n_in_bounds))) (short (c.put_octet-next-2.ensures.buf_after, c.put_octet-next-2.ensures.n_in_bounds))) (short (c.put_octet-next-3.ensures.buf_after, c.put_octet-next-3.ensures.n_in_bounds))) (short (c.put_size-next.ensures.buf_after, c.put_size-next.ensures.n_in_bounds))) (short (c.put_octet.ensures.buf_after, c.put_octet.ensures.n_in_bounds))))
+    (both (both (both (both (both (both c.put_times-next.ensures c.put_colons-next.ensures) (short c.put_field-next.ensures)) (short c.put_field-next-2.ensures)) (short c.put_field-next-3.ensures)) (short c.put_field-next-4.ensures)) (short c.put_field.ensures)))

@@ -15,4 +15,4 @@ returns c = let e = c.args.e in
     let six : length e.target ≡ 6 = search (rules, c.well_formed) in
     let four : length e.authentication ≡ 4 = search (rules, c.well_formed) in
     at_most event_most (omega (arith, six, four))
-    (both (both (both (both (both (both c.put_times-next.ensures c.put_colons-next.ensures) c.put_colons-next-2.ensures) (short (c.put_octet-next.ensures.buf_after, c.put_octet-next.ensures.n_in_bounds))) c.put_vendor-next.ensures) (short (c.put_octet-next-2.ensures.buf_after, c.put_octet-next-2.ensures.n_in_bounds))) c.put_rsn.ensures)
+    (both (both (both (both (both (both c.put_times-next.ensures c.put_colons-next.ensures) c.put_colons-next-2.ensures) (short c.put_field-next.ensures)) c.put_vendor-next.ensures) (short c.put_field-next-2.ensures)) c.put_rsn.ensures)

@@ -6,4 +6,4 @@ use Rattle.report_listing.proofs.put_signals.Goals as goal
 
 pub returns : goal.returns
 unfolding signals_text
-returns c = both (both (both (short (c.put_octet-next.ensures.buf_after, c.put_octet-next.ensures.n_in_bounds)) (short (c.put_octet-next-2.ensures.buf_after, c.put_octet-next-2.ensures.n_in_bounds))) (short (c.put_octet-next-3.ensures.buf_after, c.put_octet-next-3.ensures.n_in_bounds))) (short (c.put_octet.ensures.buf_after, c.put_octet.ensures.n_in_bounds))
+returns c = both (both (both (short c.put_field-next.ensures) (short c.put_field-next-2.ensures)) (short c.put_field-next-3.ensures)) (short c.put_field.ensures)

@@ -1,22 +1,20 @@
 -- `report_listing::put_step` meets its contract: the octets behind the status stand in the frame.
 -- Assumes nothing.
-use Prim.Native.Nat.{◌+◌, ◌-◌}
-use mathlib.Core.Path.{◌≡◌}
-use native.Mathlib.Omega.{arith}
+use Rattle.std.proofs.Common.{◌≡◌, ◌+◌, ◌-◌, refl, arith}
 use Rattle.laws.specs.Choice.{when◌then◌else◌}
 use Rattle.octets.proofs.PlaceLaws.{octets_part}
 use Rattle.texts.proofs.PutLaws.{nothing}
 use Rattle.report_listing.specs.Internal.{step_line, step_most}
 use Rattle.report_listing.proofs.put_step.Goals as goal
 
-pub returns-then-step : goal.returns-then-step
+pub returns-in-Some : goal.returns-in-Some
 unfolding step_line step_most when◌then◌else◌
-returns-then-step c = let a = c.args in
-    let rest = a.step.rest in
-    let n = a.step.element.length in
-    let e : rest + n - rest ≡ n = omega arith in
-    rw (c.if-step.true, octets_part a.s.now n rest (c.requires c.if-step.true)) (rw e at c.put_element.ensures)
+returns-in-Some c = let a = c.args in
+    let f = c.in-Some.f in
+    let n = f.element.length in
+    let e : f.rest + n - f.rest ≡ n = omega arith in
+    rw (c.in-Some.is, octets_part a.s.now n f.rest (rw c.in-Some.is at c.requires refl)) (rw e at c.put_element.ensures)
 
-pub returns : goal.returns
+pub returns-in-None : goal.returns-in-None
 unfolding step_line step_most when◌then◌else◌
-returns c = rw c.if-step.false (nothing _ _)
+returns-in-None c = rw c.in-None.is (nothing _ _)

@@ -8,4 +8,4 @@ pub returns-then-n-ones : goal.returns-then-n-ones
 returns-then-n-ones c = time_unknown _ _ _ _ _ _ _ _ c.if-n-ones.true c.put_two.ensures
 
 pub returns : goal.returns
-returns c = time_known _ _ _ _ _ _ _ _ c.if-n-ones.false (search rules) c.requires c.put_number.ensures
+returns c = time_known _ _ _ _ _ _ _ _ c.if-n-ones.false (search rules) c.requires (rw c.from.ensures at c.put_number.ensures)

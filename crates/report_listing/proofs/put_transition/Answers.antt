@@ -15,4 +15,4 @@ returns c = let e = c.args.e in
     let six : length e.source ≡ 6 = search (rules, c.well_formed) in
     let other : length e.target ≡ 6 = search (rules, c.well_formed) in
     at_most event_most (omega (arith, six, other))
-    (both (both (both (both (both (both c.put_times-next.ensures c.put_colons-next.ensures) c.put_colons-next-2.ensures) (short (c.put_pair-next.ensures.buf_after, c.put_pair-next.ensures.n_in_bounds))) (short (c.put_octet-next.ensures.buf_after, c.put_octet-next.ensures.n_in_bounds))) (short (c.put_pair-next-2.ensures.buf_after, c.put_pair-next-2.ensures.n_in_bounds))) c.put_signals.ensures)
+    (both (both (both (both (both (both c.put_times-next.ensures c.put_colons-next.ensures) c.put_colons-next-2.ensures) (short c.put_field-next.ensures)) (short c.put_field-next-2.ensures)) (short c.put_field-next-3.ensures)) c.put_signals.ensures)

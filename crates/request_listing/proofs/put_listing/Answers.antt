@@ -1,16 +1,25 @@
 -- `request_listing::put_listing` meets its contract.
 -- Assumes nothing.
-use native.Mathlib.Omega.{arith}
-use borrow.Author.Tests.{eq-eqb, ne_eqb}
+use Rattle.std.proofs.Common.{◌≡◌, ◌*◌, ◌≤◌, length, take, arith}
+use borrow.Author.Tests.{ne_eqb}
+use lib.ListN.{length-take}
 use Rattle.laws.specs.Choice.{when◌then◌else◌}
+use Rattle.octets.proofs.RefusalLaws.{some_number}
 use Rattle.texts.proofs.PutLaws.{short, at_most, both}
-use Rattle.request_listing.specs.Listing.{request_listing, request_listing_most}
+use Rattle.request_listing.specs.Listing.{request_listing, request_listing_most, element_most}
+use Rattle.laws.proofs.Arrays.{length_mapped, take_within}
+use Rattle.requests.specs.Elements.{element_capacity}
+use borrow.Author.Rules.{rules}
 use Rattle.request_listing.proofs.put_listing.Goals as goal
 
-pub returns-then-r-ne0 : goal.returns-then-r-ne0
+pub returns-in-Ok : goal.returns-in-Ok
 unfolding request_listing when◌then◌else◌
-returns-then-r-ne0 c = rw (ne_eqb _ _ c.if-r-ne0.true) (at_most request_listing_most (omega arith) (short (c.put_refusal.ensures.buf_after, c.put_refusal.ensures.r_len_bound)))
+returns-in-Ok c = let r = c.in-Ok.q in
+    let there : length r.elements ≡ element_capacity = search (rules, length_mapped) in
+    let listed = take_within r.elements element_capacity _ there r.count c.min.ensures in
+    let few : element_most * length (take r.count r.elements) ≤ element_most * element_capacity = omega (arith, length-take r.count r.elements, there) in
+    rw c.in-Ok.is (both (rw c.request_action-action.ensures at c.put_frame-next.ensures) (at_most _ few (rw listed at c.put_lines.ensures)))
 
-pub returns : goal.returns
+pub returns-in-Err : goal.returns-in-Err
 unfolding request_listing when◌then◌else◌
-returns c = rw (eq-eqb _ _ c.if-r-ne0.false) (both (rw c.request_action.ensures at c.put_frame-next.ensures) c.put_lines.ensures)
+returns-in-Err c = rw (c.in-Err.is, ne_eqb _ 0 (some_number c.in-Err.refusal.cause)) (at_most request_listing_most (omega arith) (short c.put_refusal.ensures))

@@ -18,7 +18,7 @@ returns-then-n-eq0 c =
     let o = absent-octets a.ty a.id a.c (sym c.condition_length-n.ensures.0 ∙ c.if-n-eq0.true) in
     record {
       value = sym (ap length o);
-      buf_after = sym (ap (λ (x : List ℕ). onto x a.buf.now) o);
+      put = sym (ap (λ (x : List ℕ). onto x a.buf.now) o);
     }
 
 pub copy-requires : goal.copy-requires
@@ -36,5 +36,5 @@ returns c =
     let e = condition-source a.ty a.id a.c c.condition_length-n.result c.if-n-eq0.false long c.condition_length-n.ensures.0 in
     record {
       value = c.copy.ensures.value ∙ ap length e;
-      buf_after = copied _ _ a.buf.now c.copy.new.buf e c.copy.ensures.after;
+      put = copied _ _ a.buf.now c.copy.new.buf e c.copy.ensures.after;
     }

@@ -17,5 +17,5 @@ returns c =
     = rw (c.request_id.ensures, c.low.ensures, c.high.ensures) (diagnostic_octets a.e) in
     record {
       value = (c.copy.ensures.value ∙ ap length (diagnostic_octets a.e), omega (arith, c.copy.ensures.value));
-      buf_after = copied _ _ a.buf.now c.copy.new.buf e c.copy.ensures.after;
+      put = copied _ _ a.buf.now c.copy.new.buf e c.copy.ensures.after;
     }

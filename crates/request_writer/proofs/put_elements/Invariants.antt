@@ -6,6 +6,3 @@ use Rattle.request_writer.proofs.put_elements.Given as goal
 
 abbrev pub invariant-loop-i : goal.invariant-loop-i
 invariant-loop-i l = Laying l.kind l.es l.count l.initial.buf l.buf l.at l.i
-
-abbrev pub decreases-loop-i : goal.decreases-loop-i
-decreases-loop-i l = l.count - l.i

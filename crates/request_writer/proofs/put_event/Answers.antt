@@ -33,8 +33,8 @@ returns c =
     let h : List ℕ = 78 ∷ (3 + n) ∷ a.e.token ∷ a.e.ty ∷ a.e.limit ∷ [] in
     let all : h ++ o ≡ element_octets Event a.e = event-octets a.e n is in
     let src : id.result ∷ (3 + n) ∷ a.e.token ∷ a.e.ty ∷ a.e.limit ∷ [] ≡ h = rw id.ensures in
-    let behind = lent_tail o s f.new.buf 5 (omega (arith, c.requires)) f.ensures.buf_after in
+    let behind = lent_tail o s f.new.buf 5 (omega (arith, c.requires)) f.ensures.put in
     record {
       value = (omega (arith, is, ap length all), omega (arith, f.ensures.value.1));
-      buf_after = copied h (id.result ∷ (3 + n) ∷ a.e.token ∷ a.e.ty ∷ a.e.limit ∷ []) (put_mid 5 (length s - 5) s f.new.buf) c.copy.new.buf src c.copy.ensures.after ∙ ap (onto h) behind ∙ headed h o s 5 refl (omega (arith, c.requires)) ∙ ap (λ (x : List ℕ). onto x s) all;
+      put = copied h (id.result ∷ (3 + n) ∷ a.e.token ∷ a.e.ty ∷ a.e.limit ∷ []) (put_mid 5 (length s - 5) s f.new.buf) c.copy.new.buf src c.copy.ensures.after ∙ ap (onto h) behind ∙ headed h o s 5 refl (omega (arith, c.requires)) ∙ ap (λ (x : List ℕ). onto x s) all;
     }

@@ -16,23 +16,23 @@ put_condition-at-requires c = let i = c.loop-id.invariant in
     let a = c.args in
     let f = a.filter in
     let id = c.loop-id.id in
-    let next = pieces_next (condition_octets a.ty) f id past_filter (omega (arith, i.1)) in
-    (omega arith, putting_fits i.2 (condition_octets a.ty id (get_or f id past_filter)) (pieces (condition_octets a.ty) (id + 1) (drop (id + 1) f)) next)
+    let next = pieces_next (condition_octets a.ty) f id past_filter (omega (arith, i.0)) in
+    (omega arith, putting_fits i.1 (condition_octets a.ty id (get_or f id past_filter)) (pieces (condition_octets a.ty) (id + 1) (drop (id + 1) f)) next)
 
 pub loop-id-preserved : goal.loop-id-preserved
 loop-id-preserved c = let i = c.loop-id.invariant in
     let a = c.args in
     let f = a.filter in
     let id = c.loop-id.id in
-    let next = pieces_next (condition_octets a.ty) f id past_filter (omega (arith, i.1)) in
-    (omega arith, i.1, rw c.put_condition-at.ensures.value (putting_next i.2 (condition_octets a.ty id (get_or f id past_filter)) (pieces (condition_octets a.ty) (id + 1) (drop (id + 1) f)) next c.put_condition-at.new.buf c.put_condition-at.ensures.buf_after))
+    let next = pieces_next (condition_octets a.ty) f id past_filter (omega (arith, i.0)) in
+    (i.0, rw c.put_condition-at.ensures.value (putting_next i.1 (condition_octets a.ty id (get_or f id past_filter)) (pieces (condition_octets a.ty) (id + 1) (drop (id + 1) f)) next c.put_condition-at.new.buf c.put_condition-at.ensures.put))
 
 pub returns : goal.returns
 returns c =
     let i = c.loop-id.invariant in
-    let e = pieces_end (condition_octets c.args.ty) c.args.filter c.loop-id.id (omega (arith, i.1)) in
-    let n = putting_end i.2 e in
+    let e = pieces_end (condition_octets c.args.ty) c.args.filter c.loop-id.id (omega (arith, i.0)) in
+    let n = putting_end i.1 e in
     record {
-      value = (n, omega (arith, n, filter-length c.args.ty c.args.filter i.1));
-      buf_after = putting_done i.2 e;
+      value = (n, omega (arith, n, filter-length c.args.ty c.args.filter i.0));
+      put = putting_done i.1 e;
     }

@@ -9,7 +9,4 @@ use Rattle.request_writer.specs.Frames.{condition_octets, filter_octets}
 use Rattle.request_writer.proofs.put_filter.Given as goal
 
 abbrev pub invariant-loop-id : goal.invariant-loop-id
-invariant-loop-id l = (l.id ≤ 5) × (length l.filter ≡ 5) × Putting (filter_octets l.ty l.filter) l.initial.buf l.buf l.at (pieces (condition_octets l.ty) l.id (drop l.id l.filter))
-
-abbrev pub decreases-loop-id : goal.decreases-loop-id
-decreases-loop-id l = 5 - l.id
+invariant-loop-id l = (length l.c-items ≡ 5) × Putting (filter_octets l.ty l.c-items) l.initial.buf l.buf l.at (pieces (condition_octets l.ty) l.id (drop l.id l.c-items))

@@ -1,52 +1,57 @@
 -- `request_writer::write_request` meets its contract: the elements are laid out in an array of their own, so that a refused call writes none.
 -- Assumes nothing.
 use Prim.Native.Nat.{◌-◌}
-use mathlib.Core.Path.{◌≡◌, sym, ap, ◌∙◌}
+use mathlib.Core.Path.{◌≡◌, refl, sym, ap, ◌∙◌}
 use native.Mathlib.Omega.{arith}
+use Rattle.std.proofs.lemmas.Result.{err_from_is_err_and}
+use Rattle.octets.proofs.RefusalLaws.{some_number}
 use lib.ListN.{length}
 use lib.Seq.{length-take-le}
 use Rattle.request_writer.specs.Writer.{frame_answer}
-use Rattle.request_writer.specs.declared.Written.{Written}
-use Rattle.request_writer.proofs.Writing.{short, no_dialog, answered, nothing_written, frame-written, kept, passed, lasts, frame-put}
+use Rattle.request_writer.proofs.Writing.{short, no_dialog, answered, unframed, with-elements, without-elements, nothing_written, frame-written, lasts, frame-put}
 use borrow.Author.Rules.{rules}
 use Rattle.request_writer.proofs.write_request.Goals as goal
 
 pub returns-then-buf-lt-REQUEST_BUFFER : goal.returns-then-buf-lt-REQUEST_BUFFER
 returns-then-buf-lt-REQUEST_BUFFER c = let a = c.args in
-    rw c.refused.ensures (nothing_written a.kind a.dialog a.elements a.count a.buf.now _ (short _ _ _ _ a.buf.now c.if-buf-lt-REQUEST_BUFFER.true) (λ z. omega (arith, z)))
+    rw c.at.ensures (nothing_written a.kind a.dialog a.elements a.count a.buf.now _ (short _ _ _ _ a.buf.now c.if-buf-lt-REQUEST_BUFFER.true) (λ z. omega (arith, z)))
 
 pub returns-then-dialog-eq0 : goal.returns-then-dialog-eq0
 returns-then-dialog-eq0 c = let a = c.args in
-    rw c.refused-then-dialog-eq0.ensures (nothing_written a.kind a.dialog a.elements a.count a.buf.now _ (no_dialog _ _ _ _ a.buf.now c.if-buf-lt-REQUEST_BUFFER.false c.if-dialog-eq0.true) (λ z. omega (arith, z)))
+    rw c.at-then-dialog-eq0.ensures (nothing_written a.kind a.dialog a.elements a.count a.buf.now _ (no_dialog _ _ _ _ a.buf.now c.if-buf-lt-REQUEST_BUFFER.false c.if-dialog-eq0.true) (λ z. omega (arith, z)))
 
-pub returns-then-answer-ne0 : goal.returns-then-answer-ne0
-returns-then-answer-ne0 c = let a = c.args in
-    let answer = c.frame_answer-answer.ensures ∙ ap (frame_answer a.kind a.count) c.put_elements.ensures.value.0 ∙ answered a.kind a.dialog a.elements a.count a.buf.now c.if-buf-lt-REQUEST_BUFFER.false c.if-dialog-eq0.false in
-    nothing_written a.kind a.dialog a.elements a.count a.buf.now _ answer c.if-answer-ne0.true
+pub returns-in_err-length : goal.returns-in_err-length
+returns-in_err-length c = let a = c.args in
+    let p = err_from_is_err_and c.from_residual.result c.from_residual.ensures.1 in
+    let n = some_number c.in_err-length.field-0.0.cause in
+    let answer = unframed a.kind a.dialog a.elements a.count a.buf.now _ n ∙ ap (frame_answer a.kind a.count) c.in_err-length.ensures.answer ∙ answered a.kind a.dialog a.elements a.count a.buf.now c.if-buf-lt-REQUEST_BUFFER.false c.if-dialog-eq0.false in
+    rw (p.1, p.2) (nothing_written a.kind a.dialog a.elements a.count a.buf.now _ answer n)
+
+pub returns-then-lacks_element : goal.returns-then-lacks_element
+returns-then-lacks_element c = let a = c.args in
+    let none = sym c.lacks_element.ensures ∙ c.if-lacks_element.true in
+    let answer = without-elements a.kind a.dialog a.elements a.count a.buf.now _ none ∙ ap (frame_answer a.kind a.count) c.in_ok-length.ensures.answer ∙ answered a.kind a.dialog a.elements a.count a.buf.now c.if-buf-lt-REQUEST_BUFFER.false c.if-dialog-eq0.false in
+    rw c.at-then-lacks_element.ensures (nothing_written a.kind a.dialog a.elements a.count a.buf.now _ answer (λ z. omega (arith, z)))
 
 pub overflow_sub-n : goal.overflow_sub-n
 overflow_sub-n c = let a = c.args in
-    omega (arith, lasts a.kind a.elements a.count c.put_elements.result c.frame_answer-answer.result c.put_elements.ensures.value.0 c.frame_answer-answer.ensures c.if-answer-ne0.false)
+    let some = with-elements a.kind a.dialog a.elements a.count a.buf.now _ (sym c.lacks_element.ensures ∙ c.if-lacks_element.false) in
+    omega (arith, lasts a.kind a.elements a.count _ _ c.in_ok-length.ensures.answer some refl)
 
 pub slice_bounds-body-end : goal.slice_bounds-body-end
-slice_bounds-body-end c = let a = c.args in
-    omega (arith, ap (λ (w : Written). w.length) (kept a.kind a.elements a.count c.put_elements.result c.frame_answer-answer.result c.put_elements.ensures.value.0 c.frame_answer-answer.ensures c.if-answer-ne0.false), c.put_elements.ensures.value.1)
+slice_bounds-body-end c = omega (arith, c.in_ok-length.ensures.bound)
 
 pub slice_bounds-put-end-2 : goal.slice_bounds-put-end-2
-slice_bounds-put-end-2 c = let a = c.args in
+slice_bounds-put-end-2 c =
     let long : length c.put_elements.new.buf ≡ 264 = search rules in
-    sym (length-take-le _ _ (omega (arith, long, ap (λ (w : Written). w.length) (kept a.kind a.elements a.count c.put_elements.result c.frame_answer-answer.result c.put_elements.ensures.value.0 c.frame_answer-answer.ensures c.if-answer-ne0.false), c.put_elements.ensures.value.1)))
+    sym (length-take-le _ _ (omega (arith, long, c.in_ok-length.ensures.bound)))
 
 pub returns : goal.returns
 returns c = let a = c.args in
-    let w = c.frame_answer-answer.result in
-    let v = c.put_elements.result in
-    let is = c.put_elements.ensures.value.0 in
-    let fr = c.frame_answer-answer.ensures in
-    let ok = c.if-answer-ne0.false in
-    let answer = fr ∙ ap (frame_answer a.kind a.count) is ∙ answered a.kind a.dialog a.elements a.count a.buf.now c.if-buf-lt-REQUEST_BUFFER.false c.if-dialog-eq0.false in
-    let l = lasts a.kind a.elements a.count v w is fr ok in
-    let k = ap (λ (x : Written). x.length) (kept a.kind a.elements a.count v w is fr ok) in
-    frame-written a.kind a.dialog a.elements a.count a.buf.now w answer ok _
-    (frame-put a.kind a.dialog a.elements a.count (w.length - 3) a.buf.now c.put_elements.new.buf _ c.if-buf-lt-REQUEST_BUFFER.false (omega (arith, l)) (omega (arith, k, c.put_elements.ensures.value.1))
-    (c.put_elements.ensures.buf_after (passed a.kind a.elements a.count v w is fr ok)) _ _ _ _ (rw c.request_action.ensures at c.put.ensures) c.put-2.ensures)
+    let is = c.in_ok-length.ensures.answer in
+    let some = with-elements a.kind a.dialog a.elements a.count a.buf.now _ (sym c.lacks_element.ensures ∙ c.if-lacks_element.false) in
+    let answer = some ∙ ap (frame_answer a.kind a.count) is ∙ answered a.kind a.dialog a.elements a.count a.buf.now c.if-buf-lt-REQUEST_BUFFER.false c.if-dialog-eq0.false in
+    let l = lasts a.kind a.elements a.count _ _ is some refl in
+    frame-written a.kind a.dialog a.elements a.count a.buf.now _ answer refl _
+    (frame-put a.kind a.dialog a.elements a.count (c.in_ok-length.length - 3) a.buf.now c.put_elements.new.buf _ c.if-buf-lt-REQUEST_BUFFER.false (omega (arith, l)) (omega (arith, c.in_ok-length.ensures.bound))
+    (c.in_ok-length.ensures.put refl) _ _ _ _ (rw c.request_action.ensures at c.put.ensures) c.put-2.ensures)

@@ -8,6 +8,6 @@ pub returns-then-zero_token : goal.returns-then-zero_token
 unfolding bad_token when◌then◌else◌
 returns-then-zero_token c = rw (← c.zero_token.ensures, c.if-zero_token.true)
 
-pub returns : goal.returns
+pub returns-else-zero_token : goal.returns-else-zero_token
 unfolding bad_token when◌then◌else◌
-returns c = rw (← c.zero_token.ensures, c.if-zero_token.false) c.has_token.ensures
+returns-else-zero_token c = rw (← c.zero_token.ensures, c.if-zero_token.false) c.has_token.ensures

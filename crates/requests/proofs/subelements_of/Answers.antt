@@ -12,4 +12,4 @@ returns c = let a = c.args in
     let s = a.s.now in
     let t = c.table_of-ty.ensures ∙ ap (table_of a.kind) c.octet.ensures in
     let e = c.walk.ensures ∙ ap₂ (λ (ty from : ℕ). walk s ty from a.end) t c.subelements_start.ensures ∙ subelements-from s a.kind a.at a.end in
-    (e, rw e (subelements_few s a.kind a.at a.end c.requires.1))
+    record { walked = e; few = rw e (subelements_few s a.kind a.at a.end c.requires.1) }

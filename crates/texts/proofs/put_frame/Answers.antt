@@ -7,4 +7,4 @@ use Rattle.texts.proofs.put_frame.Goals as goal
 
 pub returns : goal.returns
 unfolding frame_line
-returns c = at_most _ (omega arith) (both (both (both (short (c.put_octet-next.ensures.buf_after, c.put_octet-next.ensures.n_in_bounds)) (short (c.put_octet-next-2.ensures.buf_after, c.put_octet-next-2.ensures.n_in_bounds))) (short (c.put_size-next.ensures.buf_after, c.put_size-next.ensures.n_in_bounds))) (one c.put.ensures))
+returns c = at_most _ (omega arith) (both (both (both (short c.put_field-next.ensures) (short c.put_field-next-2.ensures)) (short c.put_field-next-3.ensures)) (one c.put.ensures))

@@ -5,10 +5,6 @@ use native.Mathlib.Omega.{arith}
 use lib.ListN.{length-append}
 use Rattle.texts.proofs.put_hex.Goals as goal
 
-pub returns-clause-buf_after : goal.returns-clause-buf_after
+pub returns : goal.returns
 unfolding hex hexed
-returns-clause-buf_after c = rw (← c.digit.ensures, ← c.digit-2.ensures) c.put_two.ensures
-
-pub returns-clause-x_in_bounds : goal.returns-clause-x_in_bounds
-unfolding hex hexed
-returns-clause-x_in_bounds c = simp length-append (omega arith)
+returns c = record { short = simp length-append (omega arith); does = rw (← c.digit.ensures, ← c.digit-2.ensures) c.put_two.ensures }

@@ -21,15 +21,15 @@ pub returns-then-is_first : goal.returns-then-is_first
 returns-then-is_first c = let i = c.loop-i.invariant in
     let t = c.loop-i.text in
     let at = c.loop-i.i - 1 in
-    let d = c.last_digit.result in
+    let d = c.digit.result in
     let l = long i.1 d in
-    let o = rw (← c.last_digit.ensures) at (spelling_last i.1 c.loop-i-test.true (sym c.is_first.ensures ∙ c.if-is_first.true)) in
+    let o = rw (← c.digit.ensures) at (spelling_last i.1 c.loop-i-test.true (sym c.is_first.ensures ∙ c.if-is_first.true)) in
     let whole = take_all (20 - at) (drop at (set t at d)) (omega (arith, length-drop at (set t at d))) ∙ o in
     rw (← i.0, ← whole) c.put_two.ensures
 
 pub loop-i-preserved : goal.loop-i-preserved
 loop-i-preserved c = let i = c.loop-i.invariant in
-    (i.0, rw (c.last_digit.ensures, c.less_one-least.ensures) (spelling_next i.1 c.loop-i-test.true (sym c.is_first.ensures ∙ c.if-is_first.false)))
+    (i.0, rw (c.digit.ensures, c.less_one-least.ensures) (spelling_next i.1 c.loop-i-test.true (sym c.is_first.ensures ∙ c.if-is_first.false)))
 
 pub returns : goal.returns
 returns c = let i = c.loop-i.invariant in

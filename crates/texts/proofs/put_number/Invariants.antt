@@ -8,6 +8,3 @@ use Rattle.texts.proofs.put_number.Given as goal
 abbrev pub invariant-loop-i : goal.invariant-loop-i
 invariant-loop-i l =
     (l.buf ≡ l.initial.buf) × Spelling (decimal l.digits l.n) l.text l.i l.least l.rest
-
-abbrev pub decreases-loop-i : goal.decreases-loop-i
-decreases-loop-i l = l.i

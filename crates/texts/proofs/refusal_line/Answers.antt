@@ -7,4 +7,4 @@ use Rattle.texts.proofs.refusal_line.Goals as goal
 
 pub returns : goal.returns
 unfolding refusal_line
-returns c = let both = whole (both (both (short (c.put_octet-next.ensures.buf_after, c.put_octet-next.ensures.n_in_bounds)) (short (c.put_size-next.ensures.buf_after, c.put_size-next.ensures.n_in_bounds))) (one c.put.ensures)) (search rules) in record { line_after = both.0; within = both.1 }
+returns c = let both = whole (both (both (short (rw c.number.ensures at c.put_field-next.ensures)) (short c.put_field-next-2.ensures)) (one c.put.ensures)) (search rules) in record { text = both.0; within = both.1 }

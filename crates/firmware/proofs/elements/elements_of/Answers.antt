@@ -1,8 +1,14 @@
--- `firmware::elements::elements_of` meets its contract. The invariant is `FillingBack`.
+-- `firmware::elements::elements_of` meets its contract.
 -- Assumes nothing.
-use Rattle.laws.proofs.Arrays.{fill_back}
-use Rattle.firmware.proofs.Laws.{past_elements}
+use Rattle.std.proofs.Common.{◌≡◌, length, rules, arith}
+use Rattle.laws.proofs.Arrays.{length_mapped}
+use Rattle.firmware.specs.Numbers.{element_from}
+use Rattle.firmware.proofs.Laws.{past_given, past_elements, mapped_at}
 use Rattle.firmware.proofs.elements.elements_of.Goals as goal
 
-pub loop-i-preserved : goal.loop-i-preserved
-loop-i-preserved c = fill_back c.loop-i.invariant c.loop-i-test.true past_elements c.element_of.result c.element_of.ensures
+pub returns : goal.returns
+returns c =
+    let m = c.map.ensures.items in
+    let eight : length c.args.es ≡ 8 = search (rules, length_mapped) in
+    mapped_at element_from past_given past_elements c.args.es c.map.result (omega (arith, m.long))
+    (λ i h. let k = m.at i past_given past_elements (omega arith) in search (rules, k))

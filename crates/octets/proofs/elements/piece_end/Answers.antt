@@ -5,6 +5,7 @@ use native.Mathlib.Omega.{arith}
 use borrow.Author.Tests.{lt-ltb, le-ltb}
 use Rattle.laws.specs.Choice.{when◌then◌else◌}
 use Rattle.octets.specs.Elements.{piece_end}
+use Rattle.octets.proofs.ElementLaws.{placed_some}
 use Rattle.octets.proofs.elements.piece_end.Goals as goal
 
 pub returns-then-end-at : goal.returns-then-end-at
@@ -25,4 +26,4 @@ pub returns : goal.returns
 unfolding piece_end when◌then◌else◌
 returns c = let a = c.args in
     let n = c.size-n.result in
-    rw (← c.size-n.ensures.0, le-ltb a.end (a.at + 2) (omega arith), le-ltb a.end (a.at + 2 + n) (omega arith))
+    rw (← c.size-n.ensures.0, le-ltb a.end (a.at + 2) (omega arith), le-ltb a.end (a.at + 2 + n) (omega arith), placed_some (a.at + 2 + n) (omega arith))

@@ -9,10 +9,10 @@ use Rattle.octets.proofs.fields.read_at.Goals as goal
 
 pub returns-then-s-from : goal.returns-then-s-from
 returns-then-s-from c = let a = c.args in
-    c.read_cut.ensures ∙ octets-from a.s.now (length a.out.now) a.at _ c.least-from.ensures
+    c.read_cut.ensures ∙ octets-from a.s.now (length a.out.now) a.at _ c.min-from.ensures
 
 pub returns : goal.returns
 returns c = let a = c.args in
-    let from = c.least-from.result in
+    let from = c.min-from.result in
     let n = length a.out.now in
-    octets_copied a.s.now a.out.now _ a.at from (from + n - from) c.least-from.ensures (omega arith) (omega (arith, c.least-from.ensures)) c.copy.ensures.after
+    octets_copied a.s.now a.out.now _ a.at from (from + n - from) c.min-from.ensures (omega arith) (omega (arith, c.min-from.ensures)) c.copy.ensures.after

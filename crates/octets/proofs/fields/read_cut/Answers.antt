@@ -1,18 +1,16 @@
 -- `octets::read_cut` meets its contract. The invariant: the first i octets are read.
 -- Assumes nothing.
-use mathlib.Core.Path.{refl, ◌∙◌}
-use native.Mathlib.Omega.{arith}
-use lib.ListN.{length-set}
+use Rattle.std.proofs.Common.{refl, ◌∙◌, arith, length-set}
 use Rattle.octets.specs.Fields.{octets_at}
 use Rattle.octets.proofs.PlaceLaws.{octets_next}
 use Rattle.octets.proofs.fields.read_cut.Goals as goal
 
 pub loop-i-init : goal.loop-i-init
 unfolding octets_at
-loop-i-init c = (omega arith, refl, refl)
+loop-i-init c = (refl, refl)
 
 pub loop-i-preserved : goal.loop-i-preserved
 loop-i-preserved c = let a = c.args in
     let l = c.loop-i in
     let k = l.invariant in
-    (omega arith, length-set l.out l.i _ ∙ k.1, octets_next a.s.now a.out.now l.out l.i a.at k.2 _ (omega arith) c.octet.ensures)
+    (length-set l.out l.i _ ∙ k.0, octets_next a.s.now a.out.now l.out l.i a.at k.1 _ (omega arith) c.octet.ensures)

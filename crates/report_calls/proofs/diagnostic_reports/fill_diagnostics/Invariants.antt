@@ -1,7 +1,6 @@
 -- `report_calls::diagnostic_reports::fill_diagnostics` meets its contract. The invariant, `Filling`: what is written, and what filling the rest gives,
 -- are what filling the whole gives.
 -- Assumes nothing.
-use Prim.Native.Nat.{◌-◌}
 use mathlib.Core.Path.{◌≡◌}
 use lib.ListN.{length, take}
 use Rattle.requests.specs.Elements.{element_capacity}
@@ -12,6 +11,3 @@ use Rattle.report_calls.proofs.diagnostic_reports.fill_diagnostics.Given as goal
 
 abbrev pub invariant-loop-i : goal.invariant-loop-i
 invariant-loop-i l = (length l.d.elements ≡ element_capacity) × Filling (next_diagnostic (take l.len l.identity)) (left l.initial.i l.d.count l.d.elements) l.initial.buf l.buf l.at (left l.i l.d.count l.d.elements)
-
-abbrev pub decreases-loop-i : goal.decreases-loop-i
-decreases-loop-i l = 8 - l.i

@@ -6,7 +6,6 @@ use mathlib.Core.Bool.{true, false}
 use mathlib.Core.List.{List, []}
 use native.Mathlib.Omega.{arith}
 use lib.ListN.{take}
-use Rattle.laws.specs.Buffers.{put_front}
 use Rattle.octets.specs.declared.numbers.Kind.TheVariants.{Diagnostic as KindDiagnostic}
 use Rattle.octets.specs.Numbers.{successful, incapable}
 use Rattle.reports.specs.Reports.{report_element}
@@ -34,10 +33,8 @@ module _ (i : List ℕ) (x : Diagnostic) where
 
 pub returns-then-is_identity : goal.returns-then-is_identity
 returns-then-is_identity c = let a = c.args in
-    c.put_list.ensures
-    ∙ ap (λ (o : List ℕ). put_front o a.buf.now) (sym (with-identity (take a.len a.identity.now) a.x _ (sym (c.is_identity.ensures ∙ ap is_identity c.diagnostic_treatment.ensures) ∙ c.if-is_identity.true)))
+    rw (with-identity (take a.len a.identity.now) a.x _ (sym (c.is_identity.ensures ∙ ap is_identity c.diagnostic_treatment.ensures) ∙ c.if-is_identity.true)) c.put_list.ensures
 
 pub returns : goal.returns
 returns c = let a = c.args in
-    c.put_plain.ensures
-    ∙ ap (λ (o : List ℕ). put_front o a.buf.now) (sym (without-identity (take a.len a.identity.now) a.x _ (sym (c.is_identity.ensures ∙ ap is_identity c.diagnostic_treatment.ensures) ∙ c.if-is_identity.false)))
+    rw (without-identity (take a.len a.identity.now) a.x _ (sym (c.is_identity.ensures ∙ ap is_identity c.diagnostic_treatment.ensures) ∙ c.if-is_identity.false)) c.put_plain.ensures

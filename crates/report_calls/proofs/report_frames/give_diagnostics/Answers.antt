@@ -8,4 +8,4 @@ pub returns-then-not-diagnostics : goal.returns-then-not-diagnostics
 returns-then-not-diagnostics c = rw c.served.ensures (no_diagnostics c.args.r c.args.len c.args.identity.now c.args.buf.now (not-true _ c.if-not-diagnostics.true))
 
 pub returns : goal.returns
-returns c = rw c.gave_diagnostics.ensures (gives-diagnostics c.args.r c.args.len c.args.identity.now c.args.buf.now _ c.frame_diagnostics-f.result (not-false _ c.if-not-diagnostics.false) c.frame_diagnostics-f.ensures)
+returns c = rw (c.served-2.ensures, c.after_diagnostics-requester.ensures) (gives-diagnostics c.args.r c.args.len c.args.identity.now c.args.buf.now _ c.frame_diagnostics-f.result (not-false _ c.if-not-diagnostics.false) c.frame_diagnostics-f.ensures)

@@ -8,7 +8,7 @@ use Rattle.report_calls.proofs.report_frames.give_report.Goals as goal
 
 pub returns-then-buf-lt-REPORT_BUFFER : goal.returns-then-buf-lt-REPORT_BUFFER
 unfolding give_report view_answer when◌then◌else◌
-returns-then-buf-lt-REPORT_BUFFER c = rw (lt-ltb _ _ c.if-buf-lt-REPORT_BUFFER.true, c.served.ensures, c.new.ensures)
+returns-then-buf-lt-REPORT_BUFFER c = rw (lt-ltb _ _ c.if-buf-lt-REPORT_BUFFER.true, c.served.ensures, c.at.ensures)
 
 pub returns-in-Event : goal.returns-in-Event
 unfolding give_report give_kind when◌then◌else◌

@@ -7,6 +7,6 @@ pub returns-then-asks_cancel : goal.returns-then-asks_cancel
 unfolding renews_diagnostics
 returns-then-asks_cancel c = rw (← c.asks_cancel.ensures, c.if-asks_cancel.true)
 
-pub returns : goal.returns
+pub returns-else-asks_cancel : goal.returns-else-asks_cancel
 unfolding renews_diagnostics
-returns c = rw (← c.asks_cancel.ensures, c.if-asks_cancel.false, c.is_repeated.ensures)
+returns-else-asks_cancel c = rw (← c.asks_cancel.ensures, c.if-asks_cancel.false, c.is_repeated.ensures)

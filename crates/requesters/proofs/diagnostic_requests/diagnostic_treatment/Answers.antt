@@ -14,6 +14,6 @@ pub returns-in-1 : goal.returns-in-1
 unfolding diagnostic_treatment when◌then◌else◌
 returns-in-1 c = rw c.in-1.is
 
-pub returns-in-2-to-255 : goal.returns-in-2-to-255
+pub returns-in_default : goal.returns-in_default
 unfolding diagnostic_treatment when◌then◌else◌
-returns-in-2-to-255 c = rw (ne_eqb c.args.ty 0 (omega arith), ne_eqb c.args.ty 1 (omega arith))
+returns-in_default c = rw (ne_eqb c.args.ty 0 (omega arith), ne_eqb c.args.ty 1 (omega arith))

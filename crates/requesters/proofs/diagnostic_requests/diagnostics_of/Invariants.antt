@@ -7,6 +7,3 @@ use Rattle.requesters.proofs.diagnostic_requests.diagnostics_of.Given as goal
 
 abbrev pub invariant-loop-i : goal.invariant-loop-i
 invariant-loop-i l = FillingBack diagnostic_of l.asked l.elements element_capacity l.end l.i
-
-abbrev pub decreases-loop-i : goal.decreases-loop-i
-decreases-loop-i l = l.i

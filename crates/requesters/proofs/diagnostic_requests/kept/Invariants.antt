@@ -1,6 +1,6 @@
 -- `requesters::diagnostic_requests::kept` meets its contract. The invariant: what is kept, with those on time of the places left, is what is on time.
 -- Assumes nothing.
-use Prim.Native.Nat.{◌≤◌, ◌-◌}
+use Prim.Native.Nat.{◌≤◌}
 use mathlib.Core.Path.{◌≡◌}
 use mathlib.Core.List.{◌++◌}
 use Rattle.units.specs.Time.{elapsed_since}
@@ -12,6 +12,3 @@ use Rattle.requesters.proofs.diagnostic_requests.kept.Given as goal
 abbrev pub invariant-loop-i : goal.invariant-loop-i
 invariant-loop-i l =
     (l.count ≤ l.i) × (l.count ≤ element_capacity) × (l.end ≤ length l.all) × (length l.all ≡ element_capacity) × (length l.elements ≡ element_capacity) × (take l.count l.elements ++ on_time elapsed_since l.now.0 l.accepted.0 (drop l.i (take l.end l.all)) ≡ on_time elapsed_since l.now.0 l.accepted.0 (drop l.initial.i (take l.end l.all)))
-
-abbrev pub decreases-loop-i : goal.decreases-loop-i
-decreases-loop-i l = l.end - l.i

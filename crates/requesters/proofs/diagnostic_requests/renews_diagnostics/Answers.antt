@@ -5,4 +5,4 @@ use Rattle.requesters.proofs.diagnostic_requests.renews_diagnostics.Goals as goa
 
 pub returns-in-Event : goal.returns-in-Event
 unfolding renews_diagnostics
-returns-in-Event c = rw (c.if-not-accepted.false, c.in-Event.is)
+returns-in-Event c = rw c.in-Event.is

@@ -9,6 +9,6 @@ use Rattle.station.proofs.Station.framed.Goals as goal
 
 pub returns : goal.returns
 unfolding step act reading_of frame_call
-returns c = sym (ap (λ (g : Station). view_outcome (changed_outcome g c.take_request.result) []) c.ticked-g.ensures.value)
+returns c = sym (ap (λ (g : Station). view_outcome (changed_outcome g c.take_request.result) []) c.ticked-g.ensures.whole)
     ∙ c.take_request.ensures
-    ∙ rw (c.ticked-g.ensures.result_value, c.read_request.ensures)
+    ∙ rw (c.ticked-g.ensures.viewed, c.read_request.ensures)

@@ -9,4 +9,4 @@ use Rattle.station.proofs.Station.tick.Goals as goal
 
 pub returns : goal.returns
 unfolding step act reading_of
-returns c = accepted-view _ _ c.accepted_with.ensures ∙ ap (λ (g : Station). result g accepted []) c.ticked.ensures.result_value
+returns c = accepted-view _ _ c.accepted_with.ensures ∙ ap (λ (g : Station). result g accepted []) c.ticked.ensures.viewed

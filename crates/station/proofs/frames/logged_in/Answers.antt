@@ -9,4 +9,4 @@ use borrow.Author.Rules.{rules}
 use Rattle.station.proofs.frames.logged_in.Goals as goal
 
 pub returns : goal.returns
-returns c = let size : length c.args.log.entries ≡ log_capacity = search (rules, length_mapped) in c.least.ensures ∙ sym (length-logged c.args.log size)
+returns c = let size : length c.args.log.entries ≡ log_capacity = search (rules, length_mapped) in c.min.ensures ∙ sym (length-logged c.args.log size)

@@ -1,15 +1,16 @@
 -- `station::outcomes::answer_of` meets its contract.
 -- Assumes nothing.
-use borrow.Author.Tests.{eq-eqb, ne_eqb}
+use borrow.Author.Tests.{ne_eqb}
 use Rattle.laws.specs.Choice.{when◌then◌else◌}
+use Rattle.octets.proofs.RefusalLaws.{some_number}
 use Rattle.requesters.specs.Views.{view_answer}
 use Rattle.station.specs.Internal.{answer_to}
 use Rattle.station.proofs.outcomes.answer_of.Goals as goal
 
-pub returns-then-refusal-ne0 : goal.returns-then-refusal-ne0
+pub returns-in-Ok : goal.returns-in-Ok
 unfolding answer_to view_answer when◌then◌else◌
-returns-then-refusal-ne0 c = rw (ne_eqb _ _ c.if-refusal-ne0.true)
+returns-in-Ok c = rw c.in-Ok.is
 
-pub returns : goal.returns
+pub returns-in-Err : goal.returns-in-Err
 unfolding answer_to view_answer when◌then◌else◌
-returns c = rw (eq-eqb _ _ c.if-refusal-ne0.false)
+returns-in-Err c = rw (c.in-Err.is, ne_eqb _ _ (some_number c.in-Err.cause), c.at.ensures)

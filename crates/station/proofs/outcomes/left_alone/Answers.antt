@@ -5,4 +5,4 @@ use Rattle.station.proofs.outcomes.left_alone.Goals as goal
 
 pub returns : goal.returns
 unfolding view_answer
-returns c = λ buffer. rw c.new-refusal.ensures
+returns c = λ buffer. rw c.at.ensures

@@ -6,4 +6,4 @@ use Rattle.station.proofs.outcomes.refused_with.Goals as goal
 
 pub returns : goal.returns
 unfolding view_outcome view_answer
-returns c = λ buffer. rw c.new-refusal.ensures
+returns c = λ buffer. rw c.at.ensures

@@ -1,9 +1,9 @@
 -- `traces::calls::fields` meets its contract.
 -- Assumes nothing.
-use borrow.Author.Tests.{le-leb, lt-leb}
+use Rattle.std.proofs.Common.{le-leb, rules}
+use Rattle.std.proofs.lemmas.Bool.{lt-leb}
 use Rattle.laws.specs.Choice.{when◌then◌else◌}
 use Rattle.traces.specs.Records.{fields_of}
-use borrow.Author.Rules.{rules}
 use Rattle.traces.proofs.calls.fields.Goals as goal
 
 pub returns-then-s-at : goal.returns-then-s-at

@@ -1,6 +1,6 @@
 -- `traces::elements::condition_table` meets its contract.
 -- Assumes nothing.
-use borrow.Author.Tests.{lt-ltb, le-ltb}
+use Rattle.std.proofs.Common.{lt-ltb, le-ltb}
 use Rattle.laws.specs.Choice.{when◌then◌else◌}
 use Rattle.traces.specs.Elements.{condition_table}
 use Rattle.traces.proofs.elements.condition_table.Goals as goal

@@ -1,31 +1,27 @@
 -- `traces::elements::element_at` meets its contract: each return rewrites with the tests that led there.
 -- Assumes nothing.
-use native.Mathlib.Omega.{arith}
-use borrow.Author.Tests.{eq-eqb, ne_eqb}
 use Rattle.laws.specs.Choice.{when◌then◌else◌}
+use Rattle.std.proofs.Common.{sym, ne_eqb, ◌<◌, arith, rules}
 use Rattle.traces.specs.Elements.{traced_element_at}
-use Rattle.traces.proofs.WalkLaws.{behind-past, behind-within}
+use Rattle.traces.proofs.WalkLaws.{is_found, some_found, none_found}
 use Rattle.traces.proofs.elements.element_at.Goals as goal
 
-pub returns-then-s-at : goal.returns-then-s-at
+pub returns-in_err-from : goal.returns-in_err-from
 unfolding traced_element_at when◌then◌else◌
-returns-then-s-at c = let a = c.args in rw (behind-past a.s.now a.at 5 (omega arith)) c.refused.ensures
-
-pub returns-then-from-eq0 : goal.returns-then-from-eq0
-unfolding traced_element_at when◌then◌else◌
-returns-then-from-eq0 c = rw (← c.behind-from.ensures, eq-eqb _ 0 c.if-from-eq0.true) c.refused-then-from-eq0.ensures
+returns-in_err-from c = rw (none_found _ c.in_err-from.ensures.place) (search rules)
 
 pub returns-then-bad_value : goal.returns-then-bad_value
 unfolding traced_element_at when◌then◌else◌
-returns-then-bad_value c = rw (← c.behind-from.ensures, ne_eqb _ 0 c.if-from-eq0.false, ← c.pair_at-value.ensures, ← c.bad_value.ensures, c.if-bad_value.true) c.refused-then-bad_value.ensures
+returns-then-bad_value c = let from = some_found c.in_ok-from.ensures.place in
+    rw (← from.0, ne_eqb c.in_ok-from.from 0 (omega (arith, from.0, from.1)), ← c.pair_at-value.ensures, ← c.bad_value.ensures, c.if-bad_value.true)
 
-pub conditions_at-conditions-requires : goal.conditions_at-conditions-requires
-conditions_at-conditions-requires c = let a = c.args in rw c.behind-from.ensures (behind-within a.s.now a.at 5)
-
-pub returns-then-conditions-eq0 : goal.returns-then-conditions-eq0
+pub returns-in_err-conditions : goal.returns-in_err-conditions
 unfolding traced_element_at when◌then◌else◌
-returns-then-conditions-eq0 c = rw (← c.behind-from.ensures, ne_eqb _ 0 c.if-from-eq0.false, ← c.pair_at-value.ensures, ← c.bad_value.ensures, c.if-bad_value.false, ← c.octet-ty.ensures, ← c.condition_table.ensures, ← c.octet.ensures, ← c.conditions_at-conditions.ensures, eq-eqb _ 0 c.if-conditions-eq0.true) c.refused-then-conditions-eq0.ensures
+returns-in_err-conditions c = let from = some_found c.in_ok-from.ensures.place in
+    rw (← from.0, ne_eqb c.in_ok-from.from 0 (omega (arith, from.0, from.1)), ← c.pair_at-value.ensures, ← c.bad_value.ensures, c.if-bad_value.false, ← c.octet-ty.ensures, ← c.condition_table.ensures, ← c.octet.ensures, none_found _ c.in_err-conditions.ensures) (search rules)
 
 pub returns : goal.returns
 unfolding traced_element_at when◌then◌else◌
-returns c = rw (← c.behind-from.ensures, ne_eqb _ 0 c.if-from-eq0.false, ← c.pair_at-value.ensures, ← c.bad_value.ensures, c.if-bad_value.false, ← c.octet-ty.ensures, ← c.condition_table.ensures, ← c.octet.ensures, ← c.conditions_at-conditions.ensures, ne_eqb _ 0 c.if-conditions-eq0.false, ← c.octet-2.ensures, ← c.limit_of.ensures, ← c.timeout_of.ensures)
+returns c = let from = some_found c.in_ok-from.ensures.place in let all = some_found c.in_ok-conditions.ensures in
+    let end : 0 < c.in_ok-conditions.conditions.end = rw all.0 all.1 in
+    rw (← from.0, ne_eqb c.in_ok-from.from 0 (omega (arith, from.0, from.1)), ← c.pair_at-value.ensures, ← c.bad_value.ensures, c.if-bad_value.false, ← c.octet-ty.ensures, ← c.condition_table.ensures, ← c.octet.ensures, ← all.0, ne_eqb c.in_ok-conditions.conditions.end 0 (omega (arith, end)), ← c.octet-2.ensures, ← c.limit_of.ensures, ← c.timeout_of.ensures) (sym (is_found _ _ end))

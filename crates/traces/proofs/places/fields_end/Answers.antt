@@ -1,60 +1,83 @@
--- `traces::places::fields_end` meets its contract: the number of the record picks its fields.
+-- `traces::places::fields_end` meets its contract: what the record is picks its fields.
 -- Assumes nothing.
-use native.Mathlib.Omega.{arith}
-use borrow.Author.Tests.{ne_eqb}
 use Rattle.laws.specs.Choice.{when◌then◌else◌}
 use Rattle.traces.specs.Records.{fields_end}
+use Rattle.std.proofs.Common.{rules}
+use Rattle.traces.proofs.WalkLaws.{behind-onward, octets_onward, list_onward, refused, some_found, none_found}
 use Rattle.traces.proofs.places.fields_end.Goals as goal
 
-pub returns-in-0 : goal.returns-in-0
+pub returns-in_err-octets_end-in-Setup : goal.returns-in_err-octets_end-in-Setup
 unfolding fields_end when◌then◌else◌
-returns-in-0 c = rw (c.in-0.is, ← c.octets_end.ensures) c.list_end.ensures
+returns-in_err-octets_end-in-Setup c = rw (c.in-Setup.is, refused (list_onward c.args.s.now _) (none_found _ c.in_err-octets_end-in-Setup.ensures)) (search rules)
 
-pub returns-in-1 : goal.returns-in-1
+pub returns-in_ok-octets_end-in-Setup : goal.returns-in_ok-octets_end-in-Setup
 unfolding fields_end when◌then◌else◌
-returns-in-1 c = rw c.in-1.is c.behind.ensures
+returns-in_ok-octets_end-in-Setup c = rw (c.in-Setup.is, ← (some_found c.in_ok-octets_end-in-Setup.ensures).0) c.list_end.ensures
 
-pub returns-in-2 : goal.returns-in-2
+pub returns-in-Clock : goal.returns-in-Clock
 unfolding fields_end when◌then◌else◌
-returns-in-2 c = rw c.in-2.is c.behind-in-2.ensures
+returns-in-Clock c = rw c.in-Clock.is c.behind.ensures.place
 
-pub returns-in-3 : goal.returns-in-3
+pub returns-in-LogTransition : goal.returns-in-LogTransition
 unfolding fields_end when◌then◌else◌
-returns-in-3 c = rw (c.in-3.is, ← c.behind-in-3.ensures) c.octets_end-in-3.ensures
+returns-in-LogTransition c = rw c.in-LogTransition.is c.behind-in-LogTransition.ensures.place
 
-pub returns-in-4 : goal.returns-in-4
+pub returns-in_err-behind-in-TakeFrame : goal.returns-in_err-behind-in-TakeFrame
 unfolding fields_end when◌then◌else◌
-returns-in-4 c = rw c.in-4.is c.report_call_end.ensures
+returns-in_err-behind-in-TakeFrame c = rw (c.in-TakeFrame.is, refused (octets_onward c.args.s.now _) (none_found _ c.in_err-behind-in-TakeFrame.ensures.place)) (search rules)
 
-pub returns-in-5 : goal.returns-in-5
+pub returns-in_ok-behind-in-TakeFrame : goal.returns-in_ok-behind-in-TakeFrame
 unfolding fields_end when◌then◌else◌
-returns-in-5 c = rw (c.in-5.is, ← c.behind-in-5.ensures) c.list_end-in-5.ensures
+returns-in_ok-behind-in-TakeFrame c = rw (c.in-TakeFrame.is, ← (some_found c.in_ok-behind-in-TakeFrame.ensures.place).0) c.octets_end-in-TakeFrame.ensures
 
-pub returns-in-6 : goal.returns-in-6
+pub returns-in-Report : goal.returns-in-Report
 unfolding fields_end when◌then◌else◌
-returns-in-6 c = rw (c.in-6.is, ← c.behind-in-6.ensures) c.list_end-in-6.ensures
+returns-in-Report c = rw c.in-Report.is c.report_call_end.ensures
 
-pub returns-in-7 : goal.returns-in-7
+pub returns-in_err-behind-in-Roam : goal.returns-in_err-behind-in-Roam
 unfolding fields_end when◌then◌else◌
-returns-in-7 c = rw (c.in-7.is, ← c.behind-in-7.ensures) c.octets_end-in-7.ensures
+returns-in_err-behind-in-Roam c = rw (c.in-Roam.is, refused (list_onward c.args.s.now _) (none_found _ c.in_err-behind-in-Roam.ensures.place)) (search rules)
 
-pub returns-in-8 : goal.returns-in-8
+pub returns-in_ok-behind-in-Roam : goal.returns-in_ok-behind-in-Roam
 unfolding fields_end when◌then◌else◌
-returns-in-8 c = rw c.in-8.is c.behind-in-8.ensures
+returns-in_ok-behind-in-Roam c = rw (c.in-Roam.is, ← (some_found c.in_ok-behind-in-Roam.ensures.place).0) c.list_end-in-Roam.ensures
 
-pub returns-in-16 : goal.returns-in-16
+pub returns-in_err-behind-in-ChangeNetwork : goal.returns-in_err-behind-in-ChangeNetwork
 unfolding fields_end when◌then◌else◌
-returns-in-16 c = rw c.in-16.is c.writer_call_end.ensures
+returns-in_err-behind-in-ChangeNetwork c = rw (c.in-ChangeNetwork.is, refused (list_onward c.args.s.now _) (none_found _ c.in_err-behind-in-ChangeNetwork.ensures.place)) (search rules)
 
-pub returns-in-17 : goal.returns-in-17
+pub returns-in_ok-behind-in-ChangeNetwork : goal.returns-in_ok-behind-in-ChangeNetwork
 unfolding fields_end when◌then◌else◌
-returns-in-17 c = rw (c.in-17.is, ← c.behind-in-17.ensures) c.octets_end-in-17.ensures
+returns-in_ok-behind-in-ChangeNetwork c = rw (c.in-ChangeNetwork.is, ← (some_found c.in_ok-behind-in-ChangeNetwork.ensures.place).0) c.list_end-in-ChangeNetwork.ensures
 
-pub returns-in-18 : goal.returns-in-18
+pub returns-in_err-behind-in-LogRsna : goal.returns-in_err-behind-in-LogRsna
 unfolding fields_end when◌then◌else◌
-returns-in-18 c = rw (c.in-18.is, ← c.octets_end-in-18.ensures) c.behind-in-18.ensures
+returns-in_err-behind-in-LogRsna c = rw (c.in-LogRsna.is, refused (octets_onward c.args.s.now _) (none_found _ c.in_err-behind-in-LogRsna.ensures.place)) (search rules)
 
-pub returns-in_default : goal.returns-in_default
+pub returns-in_ok-behind-in-LogRsna : goal.returns-in_ok-behind-in-LogRsna
 unfolding fields_end when◌then◌else◌
-returns-in_default c = let n = c.args.number in
-    rw (ne_eqb n 0 (omega arith), ne_eqb n 1 (omega arith), ne_eqb n 2 (omega arith), ne_eqb n 3 (omega arith), ne_eqb n 4 (omega arith), ne_eqb n 5 (omega arith), ne_eqb n 6 (omega arith), ne_eqb n 7 (omega arith), ne_eqb n 8 (omega arith), ne_eqb n 16 (omega arith), ne_eqb n 17 (omega arith), ne_eqb n 18 (omega arith))
+returns-in_ok-behind-in-LogRsna c = rw (c.in-LogRsna.is, ← (some_found c.in_ok-behind-in-LogRsna.ensures.place).0) c.octets_end-in-LogRsna.ensures
+
+pub returns-in-LogPeerLink : goal.returns-in-LogPeerLink
+unfolding fields_end when◌then◌else◌
+returns-in-LogPeerLink c = rw c.in-LogPeerLink.is c.behind-in-LogPeerLink.ensures.place
+
+pub returns-in-WriteRequest : goal.returns-in-WriteRequest
+unfolding fields_end when◌then◌else◌
+returns-in-WriteRequest c = rw c.in-WriteRequest.is c.writer_call_end.ensures
+
+pub returns-in_err-behind-in-ReadReport : goal.returns-in_err-behind-in-ReadReport
+unfolding fields_end when◌then◌else◌
+returns-in_err-behind-in-ReadReport c = rw (c.in-ReadReport.is, refused (octets_onward c.args.s.now _) (none_found _ c.in_err-behind-in-ReadReport.ensures.place)) (search rules)
+
+pub returns-in_ok-behind-in-ReadReport : goal.returns-in_ok-behind-in-ReadReport
+unfolding fields_end when◌then◌else◌
+returns-in_ok-behind-in-ReadReport c = rw (c.in-ReadReport.is, ← (some_found c.in_ok-behind-in-ReadReport.ensures.place).0) c.octets_end-in-ReadReport.ensures
+
+pub returns-in_err-octets_end-in-Explain : goal.returns-in_err-octets_end-in-Explain
+unfolding fields_end when◌then◌else◌
+returns-in_err-octets_end-in-Explain c = rw (c.in-Explain.is, refused (behind-onward c.args.s.now _ 4) (none_found _ c.in_err-octets_end-in-Explain.ensures)) (search rules)
+
+pub returns-in_ok-octets_end-in-Explain : goal.returns-in_ok-octets_end-in-Explain
+unfolding fields_end when◌then◌else◌
+returns-in_ok-octets_end-in-Explain c = rw (c.in-Explain.is, ← (some_found c.in_ok-octets_end-in-Explain.ensures).0) c.behind-in-Explain.ensures.place

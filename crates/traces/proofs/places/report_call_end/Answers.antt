@@ -1,7 +1,7 @@
 -- `traces::places::report_call_end` meets its contract.
 -- Assumes nothing.
-use borrow.Author.Tests.{lt-ltb, le-ltb}
 use Rattle.laws.specs.Choice.{when◌then◌else◌}
+use Rattle.std.proofs.Common.{lt-ltb, le-ltb}
 use Rattle.traces.specs.Records.{report_call_end}
 use Rattle.traces.proofs.places.report_call_end.Goals as goal
 
@@ -15,4 +15,4 @@ returns-then-bad_length c = rw (← c.octet.ensures, le-ltb _ _ c.if-octet-gt1.f
 
 pub returns : goal.returns
 unfolding report_call_end when◌then◌else◌
-returns c = rw (← c.octet.ensures, le-ltb _ _ c.if-octet-gt1.false, ← c.bad_length.ensures, c.if-bad_length.false) c.behind.ensures
+returns c = rw (← c.octet.ensures, le-ltb _ _ c.if-octet-gt1.false, ← c.bad_length.ensures, c.if-bad_length.false) c.behind.ensures.place
