@@ -1,9 +1,6 @@
 -- The round trip speaks of something: a gate that logged an event of each kind, a transition across the rollover among them, and its two reports.
 -- Assumes nothing.
-use Prim.Native.Nat.{ℕ, zero, suc}
-use mathlib.Core.Path.{◌≡◌, refl}
-use mathlib.Core.List.{List, [], ◌∷◌}
-use lib.ListN.{replicate}
+use Rattle.std.proofs.Common.{ℕ, zero, suc, ◌≡◌, refl, List, [], ◌∷◌, replicate}
 use Rattle.laws.specs.Choice.{when◌then◌else◌}
 use Rattle.laws.specs.Walk.{repeat_while}
 use Rattle.octets.specs.declared.numbers.Kind.{Kind}

@@ -1,13 +1,7 @@
 -- What each next element of a request tells: of events, by where the log's entries come from; of diagnostics, by the identity.
 -- Assumes nothing.
-use Prim.Native.Nat.{ℕ, zero, suc, ◌≤◌, ◌<◌}
-use mathlib.Core.Path.{◌≡◌, refl, sym, ap, ◌∙◌}
-use mathlib.Core.Bool.{true}
-use mathlib.Core.List.{List, [], ◌∷◌, map}
-use mathlib.Core.Option.{Option, none, some, some-injective}
-use native.Mathlib.Omega.{arith}
-use native.Mathlib.Nat.{le_of_suc-le-suc, not-suc-le-zero}
-use lib.ListN.{length, get_or}
+use Rattle.std.proofs.Common.{ℕ, zero, suc, ◌≤◌, ◌<◌, ◌≡◌, refl, sym, ap, ◌∙◌, true, List, [], ◌∷◌, map, arith, le_of_suc-le-suc, not-suc-le-zero, length, get_or}
+use Rattle.std.proofs.Math.Option.{Option, none, some, some-injective}
 use Rattle.laws.specs.Members.{Among, first, later}
 use Rattle.laws.proofs.Members.{among_map, all_among}
 use Rattle.laws.proofs.Choice.{either, never}

@@ -1,9 +1,8 @@
 -- The theorems about the model, carried to the code by induction over the chain.
 -- Assumes nothing.
-use Prim.Native.Nat.{ℕ}
-use mathlib.Core.Path.{◌≡◌, refl, sym, ap, ap₂, ◌∙◌}
-use mathlib.Core.List.{List, [], ◌∷◌, map, flatten}
-use lib.ListN.{length-map}
+use Rattle.std.proofs.Common.{ℕ, ◌≡◌, refl, sym, ap, ap₂, ◌∙◌, List, [], ◌∷◌, map}
+use Rattle.std.proofs.Math.ListN.{length-map}
+use mathlib.Core.List.{flatten}
 use Rattle.laws.specs.Members.{Among, first, later, All, nil, also}
 use Rattle.laws.proofs.Members.{among_none}
 use Rattle.octets.specs.declared.numbers.Kind.{Kind}

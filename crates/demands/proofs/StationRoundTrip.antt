@@ -1,14 +1,7 @@
 -- What a report call writes is read back to what was logged and set up.
 -- Assumes nothing.
-use Prim.Native.Nat.{ℕ, ◌-◌, ◌≤◌}
-use mathlib.Core.Path.{◌≡◌, refl, sym, ap, ◌∙◌}
-use mathlib.Core.Bool.{true}
-use mathlib.Core.List.{List, [], ◌∷◌}
-use mathlib.Core.Option.{Option, none, some}
-use native.Mathlib.Omega.{arith}
-use lib.ListN.{length, take, drop}
-use lib.Seq.{take_at}
-use borrow.Author.Tests.{ltb-false}
+use Rattle.std.proofs.Common.{ℕ, ◌-◌, ◌≤◌, ◌≡◌, refl, sym, ap, ◌∙◌, true, List, [], ◌∷◌, arith, length, take, drop, take_at, ltb-false}
+use Rattle.std.proofs.Math.Option.{Option, none, some}
 use Rattle.laws.specs.Buffers.{onto}
 use Rattle.laws.proofs.Choice.{either, never}
 use Rattle.laws.proofs.Members.{all_weaken}

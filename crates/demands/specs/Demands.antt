@@ -1,8 +1,8 @@
 -- The three demands and document 02 (c), (d), (e), (g) and (j), said of the code: for every chain of stations and answers in which each is what its method's contract allows of the
 -- one before, the first from setup. Their proofs are in proofs/Demands.antt.
 -- Assumes nothing.
-use Rattle.std.specs.Prelude.{ℕ, ◌+◌, ◌-◌, ◌%◌, ◌<◌, min, ◌≡◌, false, length, take}
-use mathlib.Core.List.{List, [], ◌∷◌, map, flatten}
+use Rattle.std.specs.Prelude.{ℕ, ◌+◌, ◌-◌, ◌%◌, ◌<◌, min, ◌≡◌, false, length, take, List, [], ◌∷◌, map}
+use mathlib.Core.List.{flatten}
 use Rattle.std.proofs.Math.Option.{Option}
 use Rattle.laws.specs.Members.{All}
 use Rattle.units.specs.Time.{turn, elapsed_top, elapsed_since}

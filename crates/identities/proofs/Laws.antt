@@ -1,14 +1,6 @@
 -- Laws of the identity: its length, and what is left of its table from a row on.
 -- Assumes nothing.
-use Prim.Native.Nat.{ℕ, ◌+◌, ◌<◌, ◌≤◌}
-use mathlib.Core.Path.{◌≡◌}
-use mathlib.Core.Bool.{Bool, true, false}
-use mathlib.Core.List.{List}
-use lib.Dec.{eqb}
-use lib.ListN.{length, get_or, drop, drop_of_length-le}
-use lib.Seq.{drop-cons}
-use native.Mathlib.Numerals.{add-one}
-use borrow.Author.Tests.{ltb-false}
+use Rattle.std.proofs.Common.{ℕ, ◌+◌, ◌<◌, ◌≤◌, ◌≡◌, Bool, true, false, List, eqb, length, get_or, drop, drop_of_length-le, drop-cons, add-one, ltb-false}
 use Rattle.laws.specs.Choice.{when◌then◌else◌}
 use Rattle.laws.proofs.Choice.{either, never}
 use Rattle.identities.specs.declared.Row.{Row}

@@ -1,17 +1,10 @@
 -- Laws of arrays: of structs, filled from the front or from the back, and mapped in place.
 -- Assumes nothing.
-use Prim.Native.Nat.{ℕ, zero, suc, ◌+◌, ◌-◌, ◌≤◌, ◌<◌, min}
-use mathlib.Core.Path.{◌≡◌, refl, sym, ap, ◌∙◌}
-use mathlib.Core.Bool.{Bool, true, false}
-use mathlib.Core.List.{List, [], ◌∷◌, ◌++◌, map, map-append, append_assoc, append-nil}
-use mathlib.Core.Option.{none, some}
-use native.Mathlib.Numerals.{add-one}
-use native.Mathlib.Nat.{add-zero, le_of_suc-le-suc, not-suc-le-zero}
-use native.Mathlib.Omega.{arith}
-use lib.Dec.{leb}
-use lib.ListN.{length, get_or, get_elem?, take, drop, set, length-take, length-map, length-set, drop_of_length-le}
-use lib.Seq.{drop-cons, take-suc, take_all, take_at, take-set-lt, drop-set-lt, set_at, get_or_at, get_or-set_same, get_or-take, append_snoc, get_or-append-add, get_or-drop}
-use borrow.Author.Tests.{leb-true, leb-false}
+use Rattle.std.proofs.Common.{ℕ, zero, suc, ◌+◌, ◌-◌, ◌≤◌, ◌<◌, min, ◌≡◌, refl, sym, ap, ◌∙◌, Bool, true, false, List, [], ◌∷◌, ◌++◌, map, append_assoc, append-nil, add-one, add-zero, le_of_suc-le-suc, not-suc-le-zero, arith, leb, length, get_or, take, drop, set, length-take, length-set, drop_of_length-le, drop-cons, take-suc, take_all, take_at, drop-set-lt, get_or-set_same, get_or-take, get_or-append-add, get_or-drop, leb-true, leb-false}
+use Rattle.std.proofs.Math.Option.{none, some}
+use Rattle.std.proofs.Math.ListN.{get_elem?, length-map}
+use Rattle.std.proofs.Math.Seq.{take-set-lt, set_at, get_or_at, append_snoc}
+use mathlib.Core.List.{map-append}
 
 -- ---- structs: what owning an array of them tells of its length
 pub length_mapped : (X Y : Type 0) (f : X → Y) (l : List X) (n : ℕ) → length (map f l) ≡ n → length l ≡ n

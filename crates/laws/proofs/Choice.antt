@@ -1,9 +1,6 @@
 -- Laws of the choice.
 -- Assumes nothing.
-use Prim.Native.Nat.{ℕ}
-use mathlib.Core.Path.{◌≡◌, refl}
-use mathlib.Core.Bool.{Bool, true, false}
-use native.Mathlib.Omega.{arith}
+use Rattle.std.proofs.Common.{ℕ, ◌≡◌, refl, Bool, true, false, arith}
 use Rattle.laws.specs.Choice.{when◌then◌else◌}
 
 -- what holds of both cases holds of the choice

@@ -1,12 +1,6 @@
 -- Laws of what stands in a list, and of what holds of all that stands in it.
 -- Assumes nothing.
-use Prim.Native.Nat.{ℕ, zero, suc, ◌≤◌}
-use mathlib.Core.Path.{◌≡◌, refl}
-use mathlib.Core.Bool.{Bool, true, false, ◌&&◌, ◌||◌}
-use mathlib.Core.List.{List, [], ◌∷◌, ◌++◌, map}
-use lib.Dec.{eqb, leb}
-use lib.ListN.{set, take}
-use borrow.Author.Tests.{eqb-true, leb-true}
+use Rattle.std.proofs.Common.{ℕ, zero, suc, ◌≤◌, ◌≡◌, refl, Bool, true, false, ◌&&◌, ◌||◌, List, [], ◌∷◌, ◌++◌, map, eqb, leb, set, take, eqb-true, leb-true}
 use Rattle.laws.specs.Members.{Among, first, later, All, nil, also}
 use Rattle.laws.proofs.Choice.{never}
 use Rattle.laws.proofs.Walk.{and_first, and_second}

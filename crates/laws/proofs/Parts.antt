@@ -1,12 +1,7 @@
 -- Laws of what stands at a position of a list, said as `drop at s ≡ o ++ r`: o stands there, and r behind it.
 -- Assumes nothing.
-use Prim.Native.Nat.{ℕ, zero, suc, ◌+◌, ◌≤◌, ◌<◌}
-use mathlib.Core.Path.{◌≡◌, refl, sym, ap, ◌∙◌}
-use mathlib.Core.List.{List, [], ◌∷◌, ◌++◌}
-use lib.ListN.{length, get_or, take, drop, length-append, length-drop}
-use lib.Seq.{get_or-drop, drop-drop, drop-append_seam, drop-cons, take_all}
-use native.Mathlib.Nat.{add-zero}
-use native.Mathlib.Omega.{arith}
+use Rattle.std.proofs.Common.{ℕ, zero, suc, ◌+◌, ◌≤◌, ◌<◌, ◌≡◌, refl, sym, ap, ◌∙◌, List, [], ◌∷◌, ◌++◌, length, get_or, take, drop, length-append, length-drop, get_or-drop, drop-drop, drop-cons, take_all, add-zero, arith}
+use Rattle.std.proofs.Math.Seq.{drop-append_seam}
 
 module _ {A : Type 0} (s : List A) (at : ℕ) (o r : List A) (h : drop at s ≡ o ++ r) where
   pub stands_at : (k : ℕ) (d : A) → get_or s (at + k) d ≡ get_or (o ++ r) k d

@@ -1,12 +1,6 @@
 -- Laws of pieces that stand one behind the other, for the loop that writes them and for the walk that reads them.
 -- Assumes nothing.
-use Prim.Native.Nat.{ℕ, suc, ◌+◌, ◌≤◌, ◌<◌}
-use mathlib.Core.Path.{◌≡◌, refl, sym, ap, ◌∙◌}
-use mathlib.Core.List.{List, [], ◌∷◌, ◌++◌, append_assoc, append-nil}
-use lib.ListN.{length, get_or, drop, length-append, drop_of_length-le}
-use lib.Seq.{drop-cons}
-use native.Mathlib.Numerals.{add-one}
-use native.Mathlib.Omega.{arith}
+use Rattle.std.proofs.Common.{ℕ, suc, ◌+◌, ◌≤◌, ◌<◌, ◌≡◌, refl, sym, ap, ◌∙◌, List, [], ◌∷◌, ◌++◌, append_assoc, append-nil, length, get_or, drop, length-append, drop_of_length-le, drop-cons, add-one, arith}
 use Rattle.laws.specs.Members.{All, also}
 use Rattle.laws.specs.Buffers.{pieces}
 use Rattle.laws.proofs.Parts.{stands-behind}

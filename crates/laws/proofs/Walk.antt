@@ -1,11 +1,6 @@
 -- Laws of walks. `Rest` is the invariant of every walk: what is left of it gives what the whole walk gives.
 -- Assumes nothing.
-use Prim.Native.Nat.{ℕ, zero, suc, ◌≤◌, ◌<◌}
-use mathlib.Core.Path.{◌≡◌, refl, sym, ◌∙◌}
-use mathlib.Core.Bool.{Bool, true, false, ◌&&◌}
-use lib.Dec.{eqb, ltb}
-use borrow.Author.Tests.{eq-eqb, ne_eqb, lt-ltb, le-ltb}
-use native.Mathlib.Omega.{arith}
+use Rattle.std.proofs.Common.{ℕ, zero, suc, ◌≤◌, ◌<◌, ◌≡◌, refl, sym, ◌∙◌, Bool, true, false, ◌&&◌, eqb, ltb, eq-eqb, ne_eqb, lt-ltb, le-ltb, arith}
 use Rattle.laws.specs.Walk.{repeat_while}
 use Rattle.laws.proofs.Choice.{never}
 

@@ -1,10 +1,7 @@
 -- Old and new answers agree while no age has reached a turn: a reading is the first one and the elapsed time, modulo a turn.
 -- Assumes nothing.
-use Prim.Native.Nat.{ℕ, ◌+◌, ◌-◌, ◌%◌, ◌≤◌, ◌<◌, min}
-use mathlib.Core.Path.{◌≡◌, refl, ap₂}
-use mathlib.Core.List.{List, [], ◌∷◌}
-use mathlib.Core.Option.{Option, none, some}
-use native.Mathlib.Omega.{arith}
+use Rattle.std.proofs.Common.{ℕ, ◌+◌, ◌-◌, ◌%◌, ◌≤◌, ◌<◌, min, ◌≡◌, refl, ap₂, List, [], ◌∷◌, arith}
+use Rattle.std.proofs.Math.Option.{Option, none, some}
 use Rattle.units.specs.Time.{turn, age, elapsed_top, elapsed_since}
 use Rattle.model.specs.Clocks.{Timer, unset, counter_clock, elapsed_clock, elapsed_at}
 use Rattle.model.specs.Model.{Capacities, Listed, Station, Call}

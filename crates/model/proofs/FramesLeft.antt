@@ -1,16 +1,10 @@
 -- How many frames a request may still give, and what becomes of that: a frame that leaves the request outstanding takes one at least of its
 -- reports, and no call adds one.
 -- Assumes nothing.
-use Prim.Native.Nat.{ℕ, zero, suc, ◌+◌, ◌-◌, ◌*◌, ◌≤◌, ◌<◌, max}
-use mathlib.Core.Path.{◌≡◌, refl, sym, ◌∙◌, ap}
-use mathlib.Core.Bool.{Bool, true, false, not, ◌&&◌, ◌||◌}
-use mathlib.Core.List.{List, [], ◌∷◌, ◌++◌}
-use mathlib.Core.Option.{Option, none, some, map, some-injective}
-use native.Mathlib.Omega.{arith}
-use native.Mathlib.Nat.{mul-le-mul_right}
-use lib.Dec.{ltb, eqb}
-use lib.ListN.{length, get_or, take, length-append, length-map, length-take}
-use borrow.Author.Tests.{eqb-true, eq-eqb, ltb-false, not-false}
+use Rattle.std.proofs.Common.{ℕ, zero, suc, ◌+◌, ◌-◌, ◌*◌, ◌≤◌, ◌<◌, max, ◌≡◌, refl, sym, ◌∙◌, ap, Bool, true, false, not, ◌&&◌, ◌||◌, List, [], ◌∷◌, ◌++◌, arith, mul-le-mul_right, ltb, eqb, length, get_or, take, length-append, length-take, eqb-true, eq-eqb, ltb-false}
+use Rattle.std.proofs.Math.Option.{Option, none, some, map, some-injective}
+use Rattle.std.proofs.Math.ListN.{length-map}
+use borrow.Author.Tests.{not-false}
 use Rattle.laws.specs.Choice.{when◌then◌else◌}
 use Rattle.laws.specs.Members.{All, nil, also}
 use Rattle.laws.proofs.Choice.{either, never}

@@ -1,17 +1,11 @@
 -- What an event request gives in all from a log that stays: one element after the other (`GivesAll`), a frame after the other (`Fills`), and
 -- a call after the other, by what its requester sees of the station.
 -- Assumes nothing.
-use Prim.Native.Nat.{ℕ, zero, suc, ◌+◌, ◌-◌, ◌≤◌, ◌<◌, min}
-use mathlib.Core.Path.{◌≡◌, refl, sym, ap, ◌∙◌}
-use mathlib.Core.Bool.{Bool, true, false, not}
-use mathlib.Core.List.{List, [], ◌∷◌, ◌++◌, map, append_assoc, flatten}
+use Rattle.std.proofs.Common.{ℕ, zero, suc, ◌+◌, ◌-◌, ◌≤◌, ◌<◌, min, ◌≡◌, refl, sym, ap, ◌∙◌, Bool, true, false, not, List, [], ◌∷◌, ◌++◌, map, append_assoc, arith, eqb, ltb, leb, length, get_or, take, drop, take-append-drop, take-add, eqb-true, eq-eqb, ne_eqb, ltb-true, ltb-false, le-ltb}
+use Rattle.std.proofs.Math.Option.{Option, none, some, some-injective}
+use Rattle.std.proofs.Math.Seq.{take-nil, take-append_seam}
+use mathlib.Core.List.{flatten}
 use mathlib.Core.Option
-use mathlib.Core.Option.{Option, none, some, some-injective}
-use native.Mathlib.Omega.{arith}
-use lib.Dec.{eqb, ltb, leb}
-use lib.ListN.{length, get_or, take, drop, take-append-drop}
-use lib.Seq.{take-nil, take-append_seam, take-add}
-use borrow.Author.Tests.{eqb-true, eq-eqb, ne_eqb, ltb-true, ltb-false, le-ltb}
 use Rattle.laws.specs.Choice.{when◌then◌else◌}
 use Rattle.laws.proofs.Choice.{either, never}
 use Rattle.laws.specs.Buffers.{onto}

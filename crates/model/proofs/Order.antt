@@ -1,14 +1,8 @@
 -- Document 02 (j): calls at one reading. A frame changes the first requester of its source, and no other; and a second late drop at one
 -- reading finds nothing.
 -- Assumes nothing.
-use Prim.Native.Nat.{ℕ}
-use mathlib.Core.Path.{◌≡◌, refl, sym, ◌∙◌, ap, ap₂}
-use mathlib.Core.Bool.{Bool, true, false}
-use mathlib.Core.List.{List, [], ◌∷◌, map}
-use mathlib.Core.Option.{Option, none, some, some-injective}
-use native.Mathlib.Omega.{arith}
-use lib.Dec.{eqb}
-use borrow.Author.Tests.{ltb-true}
+use Rattle.std.proofs.Common.{ℕ, ◌≡◌, refl, sym, ◌∙◌, ap, ap₂, Bool, true, false, List, [], ◌∷◌, map, arith, eqb, ltb-true}
+use Rattle.std.proofs.Math.Option.{Option, none, some, some-injective}
 use Rattle.laws.specs.Choice.{when◌then◌else◌}
 use Rattle.laws.specs.Members.{All, nil, also}
 use Rattle.laws.proofs.Choice.{either, never}

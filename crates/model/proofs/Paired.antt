@@ -1,9 +1,7 @@
 -- Two stations in step, each by its own clock: the times of the one are those of the other, mapped.
 -- Assumes nothing.
-use Prim.Native.Nat.{ℕ}
-use mathlib.Core.Path.{◌≡◌, ◌∙◌, ap}
-use mathlib.Core.List.{List}
-use mathlib.Core.Option.{Option, some}
+use Rattle.std.proofs.Common.{ℕ, ◌≡◌, ◌∙◌, ap, List}
+use Rattle.std.proofs.Math.Option.{Option, some}
 use Rattle.model.specs.Clocks.{Timer, unset, Clock}
 use Rattle.model.specs.Model.{Capacities, Listed, Station, Call}
 use Rattle.model.specs.Stations.{timed, without_late, act, reading_of, step}

@@ -1,11 +1,7 @@
 -- Elapsed time is true time since the first call, and fewer calls than a turn has milliseconds keep it short of its elapsed_top.
 -- Assumes nothing.
-use Prim.Native.Nat.{ℕ, ◌+◌, ◌-◌, ◌*◌, ◌%◌, ◌≤◌, ◌<◌, min}
-use mathlib.Core.Path.{◌≡◌, refl, ◌∙◌, ap}
-use mathlib.Core.List.{List, [], ◌∷◌, map}
-use mathlib.Core.Option.{Option, none, some}
-use native.Mathlib.Omega.{arith}
-use lib.ListN.{length}
+use Rattle.std.proofs.Common.{ℕ, ◌+◌, ◌-◌, ◌*◌, ◌%◌, ◌≤◌, ◌<◌, min, ◌≡◌, refl, ◌∙◌, ap, List, [], ◌∷◌, map, arith, length}
+use Rattle.std.proofs.Math.Option.{Option, none, some}
 use Rattle.units.specs.Time.{turn, age, elapsed_top}
 use Rattle.model.specs.Clocks.{Timer, unset, advanced, elapsed_clock, elapsed_at}
 use Rattle.model.specs.Model.{Capacities, Listed, Station, Call}

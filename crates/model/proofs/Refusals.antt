@@ -1,13 +1,8 @@
 -- Demand 1: a refused call leaves the station as a bare clock reading would, and writes no octet of a lent buffer.
 -- Assumes nothing.
-use Prim.Native.Nat.{ℕ}
-use mathlib.Core.Path.{◌≡◌, refl, sym, ◌∙◌, ap}
-use mathlib.Core.Bool.{Bool, true, false}
-use mathlib.Core.List.{List, [], ◌∷◌}
-use mathlib.Core.Option.{Option, none, some, some-injective}
-use lib.Dec.{eqb}
+use Rattle.std.proofs.Common.{ℕ, ◌≡◌, refl, sym, ◌∙◌, ap, Bool, true, false, List, [], ◌∷◌, eqb, arith}
+use Rattle.std.proofs.Math.Option.{Option, none, some, some-injective}
 use borrow.Author.Tests.{eqb-false, not-true}
-use native.Mathlib.Omega.{arith}
 use Rattle.laws.specs.Members.{Among, first, later}
 use Rattle.laws.specs.Choice.{when◌then◌else◌}
 use Rattle.laws.proofs.Members.{among_at_most, among_behind}

@@ -1,18 +1,14 @@
 -- What a station is for one sender: its timer, its identity, its log and the sender's own slot. Every call makes of it what it makes of the station,
 -- another sender's call no more than a bare clock reading, and the reply to a sender follows from it.
 -- Assumes nothing.
-use Prim.Native.Nat.{ℕ}
-use mathlib.Core.Path.{◌≡◌, refl, sym, ◌∙◌, ap}
-use mathlib.Core.Bool.{Bool, true, false, not}
-use mathlib.Core.List.{List, [], ◌∷◌, map}
+use Rattle.std.proofs.Common.{ℕ, ◌≡◌, refl, sym, ◌∙◌, ap, Bool, true, false, not, List, [], ◌∷◌, map, eqb}
+use Rattle.std.proofs.Math.Option.{Option, none, some, some-injective}
 use mathlib.Core.Option
-use mathlib.Core.Option.{Option, none, some, some-injective}
 use Rattle.laws.specs.Choice.{when◌then◌else◌}
 use Rattle.laws.proofs.Choice.{either}
 use Rattle.octets.specs.declared.numbers.Kind.{Kind}
 use Rattle.octets.specs.declared.numbers.Kind.TheVariants.{Event, Diagnostic}
 use Rattle.octets.specs.Addresses.{same, is_group}
-use lib.Dec.{eqb}
 use Rattle.octets.specs.Refusals.{group_destination, unknown_requester}
 use Rattle.octets.proofs.AddressLaws.{same_true}
 use Rattle.events.specs.declared.Entry.{Entry}

@@ -1,13 +1,9 @@
 -- Every run from setup on is sound.
 -- Assumes nothing.
-use Prim.Native.Nat.{ℕ}
-use mathlib.Core.Path.{◌≡◌, refl, sym, ap, ◌∙◌}
-use mathlib.Core.Bool.{Bool, true, false, not, ◌||◌}
-use mathlib.Core.List.{List, [], ◌∷◌, ◌++◌, map, map-append}
-use mathlib.Core.Option.{Option, none, some, some-injective}
-use lib.ListN.{length, drop}
-use lib.Dec.{ltb, eqb}
-use borrow.Author.Tests.{not-false, eqb-true}
+use Rattle.std.proofs.Common.{ℕ, ◌≡◌, refl, sym, ap, ◌∙◌, Bool, true, false, not, ◌||◌, List, [], ◌∷◌, ◌++◌, map, length, drop, ltb, eqb, eqb-true}
+use Rattle.std.proofs.Math.Option.{Option, none, some, some-injective}
+use mathlib.Core.List.{map-append}
+use borrow.Author.Tests.{not-false}
 use Rattle.laws.specs.Members.{Among, first, later, All, nil, also, any}
 use Rattle.laws.specs.Choice.{when◌then◌else◌}
 use Rattle.laws.proofs.Members.{all_end}

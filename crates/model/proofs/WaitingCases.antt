@@ -1,11 +1,8 @@
 -- Document 02 (e) speaks of something, by computation: requests of both kinds that stay through a first frame and are over with the second,
 -- and one that is over with its header_only frame.
 -- Assumes nothing.
-use Prim.Native.Nat.{ℕ}
-use mathlib.Core.Path.{◌≡◌, refl}
-use mathlib.Core.List.{List, [], ◌∷◌, ◌++◌}
-use mathlib.Core.Option.{none, some}
-use lib.ListN.{replicate}
+use Rattle.std.proofs.Common.{ℕ, ◌≡◌, refl, List, [], ◌∷◌, ◌++◌, replicate}
+use Rattle.std.proofs.Math.Option.{none, some}
 use Rattle.laws.specs.Choice.{when◌then◌else◌}
 use Rattle.laws.specs.Members.{any}
 use Rattle.laws.specs.Walk.{repeat_while}

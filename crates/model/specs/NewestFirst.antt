@@ -1,8 +1,8 @@
 -- Document 02 (d), "With nothing logged after acceptance, a limit of 3 now gives the latest three that match, or all if fewer": what an
 -- event request gives in all, said of a station's own report calls. Its proof is in proofs/NewestFirst.antt.
 -- Assumes nothing.
-use Rattle.std.specs.Prelude.{ℕ, min, ◌≡◌, false, length, get_or, take, drop}
-use mathlib.Core.List.{List, [], ◌∷◌, ◌++◌, map, flatten}
+use Rattle.std.specs.Prelude.{ℕ, min, ◌≡◌, false, length, get_or, take, drop, List, [], ◌∷◌, ◌++◌, map}
+use mathlib.Core.List.{flatten}
 use Rattle.std.proofs.Math.Option.{Option, none, some}
 use Rattle.laws.specs.Choice.{when◌then◌else◌}
 use Rattle.laws.specs.Members.{All}

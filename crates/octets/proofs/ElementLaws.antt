@@ -1,15 +1,9 @@
 -- Laws of elements' edges.
 -- Assumes nothing.
-use Prim.Native.Nat.{ℕ, zero, suc, ◌+◌, ◌≤◌, ◌<◌}
-use mathlib.Core.Path.{◌≡◌, refl}
-use mathlib.Core.List.{List, ◌++◌}
-use lib.ListN.{length, get_or, drop}
-use borrow.Author.Tests.{le-ltb, ltb-false}
-use native.Mathlib.Omega.{arith}
 use Rattle.laws.specs.Choice.{when◌then◌else◌}
 use Rattle.laws.proofs.Choice.{either}
 use Rattle.laws.proofs.Parts.{stands_at}
-use Rattle.std.proofs.Common.{Option, None, Some}
+use Rattle.std.proofs.Common.{Option, None, Some, ℕ, zero, suc, ◌+◌, ◌≤◌, ◌<◌, ◌≡◌, refl, List, ◌++◌, length, get_or, drop, le-ltb, ltb-false, arith}
 use Rattle.octets.specs.Elements.{framed, piece_end, placed}
 
 -- ---- the place of a number

@@ -1,8 +1,6 @@
 -- Laws of two-octet fields: reading undoes writing, and writing undoes reading.
 -- Assumes nothing.
-use Prim.Native.Nat.{ℕ, ◌<◌}
-use mathlib.Core.Path.{◌≡◌}
-use native.Mathlib.Omega.{arith}
+use Rattle.std.proofs.Common.{ℕ, ◌<◌, ◌≡◌, arith}
 use Rattle.octets.specs.Fields.{pair, low, high}
 
 pub pair_halves : (x : ℕ) → pair (low x) (high x) ≡ x

@@ -18,7 +18,7 @@ pub fn is_group(a: [u8; 6]) -> bool
     a[0] % 2 == 1
 }
 
-// The address at a position, 0 past the end.
+// The address at a position, 0 past the end: `array_at` under the paper's name, with its size.
 pub fn address_at(s: &[u8], at: usize) -> [u8; 6]
     ensures { result ≡ address_at s.now at }
 {

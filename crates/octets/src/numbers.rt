@@ -26,6 +26,7 @@ pub enum Kind {
     Diagnostic,
 }
 
+// Four numbers by kind, each under its name: one function would have to be told which of the four.
 impl Kind {
     pub fn request_action(self) -> u8
         ensures { result ≡ request_action self }

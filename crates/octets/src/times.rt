@@ -51,7 +51,7 @@ pub fn good_time(t: [u8; 9]) -> bool
     good_date(t[5], t[6])
 }
 
-// The time at a position, 0 past the end.
+// The time at a position, 0 past the end: `array_at` under the paper's name, with its size.
 pub fn time_at(s: &[u8], at: usize) -> [u8; 9]
     ensures { result ≡ time_at s.now at }
 {

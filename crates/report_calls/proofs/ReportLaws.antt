@@ -1,11 +1,7 @@
 -- Laws of a diagnostic request's reports, one an element.
 -- Assumes nothing.
-use Prim.Native.Nat.{ℕ, ◌+◌, ◌≤◌, ◌<◌, min}
-use mathlib.Core.Path.{◌≡◌}
-use mathlib.Core.List.{List}
-use mathlib.Core.Option.{none, some}
-use native.Mathlib.Omega.{arith}
-use lib.ListN.{length, get_or}
+use Rattle.std.proofs.Common.{ℕ, ◌+◌, ◌≤◌, ◌<◌, min, ◌≡◌, List, arith, length, get_or}
+use Rattle.std.proofs.Math.Option.{none, some}
 use Rattle.reports.specs.Reports.{report_element}
 use Rattle.model.specs.declared.Diagnostic.{Diagnostic}
 use Rattle.model.specs.declared.Treatment.{Treatment}

@@ -1,13 +1,7 @@
 -- Laws of a report call on one requester: what the code leaves is what the model gives.
 -- Assumes nothing.
-use Prim.Native.Nat.{ℕ, ◌+◌}
-use mathlib.Core.Path.{◌≡◌, refl, ap, ◌∙◌}
-use mathlib.Core.Bool.{Bool, true, false, not}
-use mathlib.Core.List.{List, [], ◌∷◌}
-use mathlib.Core.Option.{Option, none, some}
-use lib.Dec.{eqb}
-use lib.ListN.{length, take}
-use borrow.Author.Tests.{eqb-true}
+use Rattle.std.proofs.Common.{ℕ, ◌+◌, ◌≡◌, refl, ap, ◌∙◌, Bool, true, false, not, List, [], ◌∷◌, length, take, length-take, arith, take_all, ne_eqb}
+use Rattle.std.proofs.Math.Option.{Option, none, some}
 use Rattle.units.specs.Time.{elapsed_since}
 use Rattle.laws.specs.Choice.{when◌then◌else◌}
 use Rattle.laws.specs.Buffers.{onto}
@@ -27,14 +21,11 @@ use Rattle.report_calls.specs.declared.Filled.{Filled}
 use Rattle.requesters.specs.Views.{left, events_at, progress_of, view_events, view_diagnostics, view_requester, view_answer, view_identity, view_served}
 use Rattle.report_calls.specs.Internal.{is_none, FramedAs, filled_events, answered_diagnostics}
 
--- the octets of an identity's first len places
-pub identity-octets : (len : ℕ) (identity : List ℕ) → octets_of (view_identity len identity) ≡ take len identity
+-- the octets of an identity of which 252 are taken
+pub identity-octets : (identity : List ℕ) → octets_of (view_identity (length identity) (take 252 identity)) ≡ take 252 identity
 unfolding view_identity octets_of when◌then◌else◌
-identity-octets len identity = go (eqb len 0) refl
-  where
-    go : (t : Bool) → eqb len 0 ≡ t → octets_of (when t then none else some (take len identity)) ≡ take len identity
-    go true e = rw (eqb-true len 0 e)
-    go false e = refl
+identity-octets [] = refl
+identity-octets (x ∷ xs) = rw (ne_eqb (length (x ∷ xs)) 0 (omega arith)) (take_all (length (x ∷ xs)) (take 252 (x ∷ xs)) (omega (arith, length-take 252 (x ∷ xs))))
 
 -- a request that is over, or not
 ended-events : (q : EventRequest) (o : Option (Piece EventRequest)) (done : Bool) → done ≡ is_none o → (when not done then some q else none) ≡ unless_done q o
@@ -65,21 +56,21 @@ module _ (r : Requester) (log : List Entry) (s : List ℕ) where
       rw (e, g.wrote, g.octets)
       (ap (λ (o : Option EventRequest). served (record { address = r.address; form = r.form; events = o; diagnostics = view_diagnostics r.diagnostics }) (of_length (length P.octets)) (onto P.octets s)) left)
 
-module _ (r : Requester) (len : ℕ) (identity s : List ℕ) where
+module _ (r : Requester) (identity s : List ℕ) where
   pub no_diagnostics : r.diagnostics.outstanding ≡ false
-      → view_served (record { requester = r; answer = Nothing }) s ≡ give_kind elapsed_since (view_identity len identity) [] s (view_requester r) Diagnostic
+      → view_served (record { requester = r; answer = Nothing }) s ≡ give_kind elapsed_since (view_identity (length identity) (take 252 identity)) [] s (view_requester r) Diagnostic
   unfolding give_kind if_outstanding view_requester view_diagnostics view_answer when◌then◌else◌
   no_diagnostics e = rw e
 
   pub gives-diagnostics : (s' : List ℕ) (f : Filled ℕ) → r.diagnostics.outstanding ≡ true
-      → FramedAs (next_diagnostic (take len identity)) (report_action Diagnostic) r.diagnostics.dialog (left r.diagnostics.first r.diagnostics.count r.diagnostics.elements) s s' f.wrote f.done (left f.after r.diagnostics.count r.diagnostics.elements)
-      → view_served (record { requester = record r { diagnostics = answered_diagnostics r.diagnostics f }; answer = Length (3 + f.wrote) }) s' ≡ give_kind elapsed_since (view_identity len identity) [] s (view_requester r) Diagnostic
+      → FramedAs (next_diagnostic (take 252 identity)) (report_action Diagnostic) r.diagnostics.dialog (left r.diagnostics.first r.diagnostics.count r.diagnostics.elements) s s' f.wrote f.done (left f.after r.diagnostics.count r.diagnostics.elements)
+      → view_served (record { requester = record r { diagnostics = answered_diagnostics r.diagnostics f }; answer = Length (3 + f.wrote) }) s' ≡ give_kind elapsed_since (view_identity (length identity) (take 252 identity)) [] s (view_requester r) Diagnostic
   unfolding give_kind if_outstanding give_diagnostics view_requester view_diagnostics view_answer when◌then◌else◌
   gives-diagnostics s' f e g =
       let d = r.diagnostics in
-      let P = next_frame (next_diagnostic (take len identity)) (report_action Diagnostic) d.dialog (room s) (left d.first d.count d.elements) in
+      let P = next_frame (next_diagnostic (take 252 identity)) (report_action Diagnostic) d.dialog (room s) (left d.first d.count d.elements) in
       let over : view_diagnostics (answered_diagnostics d f) ≡ unless_over d.dialog d.accepted.0 P.rest =
-      ended-diagnostics (take len identity) d.dialog d.accepted.0 (left f.after d.count d.elements) f.done g.ended
+      ended-diagnostics (take 252 identity) d.dialog d.accepted.0 (left f.after d.count d.elements) f.done g.ended
       ∙ ap (unless_over d.dialog d.accepted.0) g.after in
-      rw (e, identity-octets len identity, g.wrote, g.octets)
+      rw (e, identity-octets identity, g.wrote, g.octets)
       (ap (λ (o : Option DiagnosticRequest). served (record { address = r.address; form = r.form; events = view_events r.events; diagnostics = o }) (of_length (length P.octets)) (onto P.octets s)) over)

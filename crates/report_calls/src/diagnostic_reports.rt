@@ -3,7 +3,7 @@ ghost use Rattle.std.specs.Prelude.{◌≡◌, take};
 ghost use Rattle.reports.specs.Reports.{PutWhole};
 ghost use Rattle.model.specs.Diagnostics.{diagnostic_treatment, diagnostic_report, next_diagnostic};
 ghost use Rattle.requesters.specs.Views.{left};
-ghost use Rattle.report_calls.specs.Internal.{is_identity, FilledAs};
+ghost use Rattle.report_calls.specs.Internal.{FilledAs};
 
 use crate::Filled;
 use model::{Diagnostic, Treatment};
@@ -12,45 +12,32 @@ use reports::{put_list, put_plain};
 use requesters::{DiagnosticRequest, diagnostic_treatment};
 use requests::ELEMENT_CAPACITY;
 
-// Is an element answered with the identity?
-fn is_identity(t: Treatment) -> bool
-    ensures { result ≡ is_identity t }
-{
-    t == Treatment::Identity
-}
-
 // Puts the report of an element at the front of the part lent.
-fn put_diagnostic(x: Diagnostic, identity: &[u8; 252], len: usize, buf: &mut [u8]) -> Option<usize>
-    ensures { PutWhole (diagnostic_report (take len identity.now) x (diagnostic_treatment x.ty)) buf.old result buf.new }
+fn put_diagnostic(x: Diagnostic, identity: &[u8], buf: &mut [u8]) -> Option<usize>
+    ensures { PutWhole (diagnostic_report (take 252 identity.now) x (diagnostic_treatment x.ty)) buf.old result buf.new }
 {
-    if is_identity(diagnostic_treatment(x.ty)) {
-        return put_list(
+    match diagnostic_treatment(x.ty) {
+        Treatment::Identity => put_list(
             buf,
             Kind::Diagnostic,
             x.token,
             x.ty,
             numbers::SUCCESSFUL,
             identity,
-            len,
-        );
+        ),
+        _ => put_plain(buf, Kind::Diagnostic, x.token, x.ty, numbers::INCAPABLE),
     }
-    put_plain(buf, Kind::Diagnostic, x.token, x.ty, numbers::INCAPABLE)
 }
 
 // Elements one behind the other, while each fits; how far the request has come is its first element left.
-pub(crate) fn fill_diagnostics(
-    d: DiagnosticRequest,
-    identity: &[u8; 252],
-    len: usize,
-    buf: &mut [u8],
-) -> Filled<u8>
-    ensures { FilledAs (next_diagnostic (take len identity.now)) (left d.first d.count d.elements) buf.old buf.new result.wrote result.done (left result.after d.count d.elements) }
+pub(crate) fn fill_diagnostics(d: DiagnosticRequest, identity: &[u8], buf: &mut [u8]) -> Filled<u8>
+    ensures { FilledAs (next_diagnostic (take 252 identity.now)) (left d.first d.count d.elements) buf.old buf.new result.wrote result.done (left result.after d.count d.elements) }
 {
     let end = least(d.count as usize, ELEMENT_CAPACITY) as u8;
     let mut at: usize = 0;
     for i in d.first..end {
         let x = d.elements[i as usize];
-        let Some(n) = put_diagnostic(x, identity, len, &mut buf[at..]) else {
+        let Some(n) = put_diagnostic(x, identity, &mut buf[at..]) else {
             return Filled {
                 wrote: at,
                 done: false,

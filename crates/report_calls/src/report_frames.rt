@@ -71,17 +71,12 @@ fn frame_events(form: u8, log: Log, r: EventRequest, buf: &mut [u8]) -> Filled<P
 
 // A Diagnostic Report frame. It has a function of its own: one for both kinds takes what fills it as a
 // closure, and says of each call of that what this one says of one.
-fn frame_diagnostics(
-    r: DiagnosticRequest,
-    identity: &[u8; 252],
-    len: usize,
-    buf: &mut [u8],
-) -> Filled<u8>
+fn frame_diagnostics(r: DiagnosticRequest, identity: &[u8], buf: &mut [u8]) -> Filled<u8>
     requires { 260 ≤ length buf.old }
-    ensures { FramedAs (next_diagnostic (take len identity.now)) (report_action Diagnostic) r.dialog (left r.first r.count r.elements) buf.old buf.new result.wrote result.done (left result.after r.count r.elements) }
+    ensures { FramedAs (next_diagnostic (take 252 identity.now)) (report_action Diagnostic) r.dialog (left r.first r.count r.elements) buf.old buf.new result.wrote result.done (left result.after r.count r.elements) }
 {
     let end = frame_end(buf.len());
-    let f = fill_diagnostics(r, identity, len, &mut buf[3..end]);
+    let f = fill_diagnostics(r, identity, &mut buf[3..end]);
     put_header(buf, Kind::Diagnostic, r.dialog);
     f
 }
@@ -108,36 +103,30 @@ fn give_events(r: Requester, log: Log, buf: &mut [u8]) -> Served
 }
 
 // A diagnostic report, where a request is outstanding.
-fn give_diagnostics(r: Requester, identity: &[u8; 252], len: usize, buf: &mut [u8]) -> Served
+fn give_diagnostics(r: Requester, identity: &[u8], buf: &mut [u8]) -> Served
     requires { 260 ≤ length buf.old }
-    ensures { view_served result buf.new ≡ give_kind elapsed_since (view_identity len identity.now) [] buf.old (view_requester r) Diagnostic }
+    ensures { view_served result buf.new ≡ give_kind elapsed_since (view_identity (length identity.now) (take 252 identity.now)) [] buf.old (view_requester r) Diagnostic }
 {
     let diagnostics = r.diagnostics;
     if !diagnostics.outstanding {
         return served(r, Answer::Nothing);
     }
-    let f = frame_diagnostics(diagnostics, identity, len, buf);
+    let f = frame_diagnostics(diagnostics, identity, buf);
     let mut requester = r;
     requester.diagnostics = after_diagnostics(diagnostics, f);
     served(requester, Answer::Length(3 + f.wrote))
 }
 
-// The report call of a listed requester: refused for a short buffer, nothing, or a frame.
-pub fn give_report(
-    r: Requester,
-    identity: &[u8; 252],
-    len: usize,
-    log: Log,
-    kind: Kind,
-    buf: &mut [u8],
-) -> Served
-    ensures { view_served result buf.new ≡ give_report elapsed_since (view_identity len identity.now) (logged log) kind buf.old (view_requester r) }
+// The report call of a listed requester: refused for a short buffer, nothing, or a frame. Of an identity more
+// than 252 octets are not taken.
+pub fn give_report(r: Requester, identity: &[u8], log: Log, kind: Kind, buf: &mut [u8]) -> Served
+    ensures { view_served result buf.new ≡ give_report elapsed_since (view_identity (length identity.now) (take 252 identity.now)) (logged log) kind buf.old (view_requester r) }
 {
     if buf.len() < numbers::REPORT_BUFFER {
         return served(r, Answer::Refused(Cause::ShortBuffer.at(0)));
     }
     match kind {
         Kind::Event => give_events(r, log, buf),
-        Kind::Diagnostic => give_diagnostics(r, identity, len, buf),
+        Kind::Diagnostic => give_diagnostics(r, identity, buf),
     }
 }

@@ -1,20 +1,13 @@
 -- Laws of the listing: its time fields, the lines of the elements that the cursor hands out, and how long they are at most; what is read of a frame that is not refused.
 -- Assumes nothing.
-use Prim.Native.Nat.{ℕ, ◌+◌, ◌*◌, ◌-◌, ◌≤◌, ◌<◌}
-use mathlib.Core.Path.{◌≡◌, refl, ap, ◌∙◌}
-use mathlib.Core.Bool.{Bool, true, false}
-use mathlib.Core.List.{List, [], ◌∷◌, ◌++◌, append-nil}
-use native.Mathlib.Omega.{arith}
-use lib.ListN.{length, length-append}
-use lib.Dec.{eqb}
-use borrow.Author.Tests.{eq-eqb, ne_eqb, eqb-true, eqb-false, not-true, not-false}
+use borrow.Author.Tests.{eqb-false, not-true, not-false}
 use Rattle.laws.specs.Choice.{when◌then◌else◌}
 use Rattle.laws.specs.Buffers.{pieces, wrote, put_at}
 use Rattle.laws.proofs.Choice.{either}
 use Rattle.laws.proofs.Pieces.{pieces_snoc}
 use Rattle.laws.proofs.Walk.{Rest, start, done, last, again, go_on, stop_refused, stop_end}
 use Rattle.octets.specs.declared.numbers.Kind.{Kind}
-use Rattle.std.proofs.Common.{Result, Ok, Err}
+use Rattle.std.proofs.Common.{Result, Ok, Err, ℕ, ◌+◌, ◌*◌, ◌-◌, ◌≤◌, ◌<◌, ◌≡◌, refl, ap, ◌∙◌, Bool, true, false, List, [], ◌∷◌, ◌++◌, append-nil, arith, length, length-append, eqb, eq-eqb, ne_eqb, eqb-true}
 use Rattle.std.specs.Result.{is_ok}
 use Rattle.octets.specs.declared.refusals.Refusal.{Refusal as CodeRefusal}
 use Rattle.octets.specs.Refusals.{no_refusal}

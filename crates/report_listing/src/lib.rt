@@ -261,7 +261,7 @@ fn put_step(buf: &mut [u8], at: usize, form: u8, s: &[u8], kind: Kind, step: Ste
     }
 }
 
-// The lines of all elements of a frame that is not refused.
+// The lines of all elements of a frame that is not refused. A loop: each step tells the next cursor.
 fn put_elements(buf: &mut [u8], from: usize, form: u8, s: &[u8], kind: Kind) -> usize
     requires { (is_form form ≡ true) × ((read_elements form s.now kind).refusal.number ≡ 0) }
     ensures { Puts (lines_most (length s.now)) (report_element_lines form kind (read_elements form s.now kind).elements) from buf.old result buf.new }

@@ -1,15 +1,6 @@
 -- Laws of the decoders: what stands behind so many octets; so many from the front; and that fields are read of as many as they have.
 -- Assumes nothing.
-use Prim.Native.Nat.{ℕ, zero, suc, ◌+◌, ◌-◌, ◌≤◌, ◌<◌, min}
-use mathlib.Core.Path.{◌≡◌, refl, sym, ap, ◌∙◌}
-use mathlib.Core.Bool.{Bool, true, false}
-use mathlib.Core.List.{List, [], ◌∷◌, ◌++◌, append-nil}
-use native.Mathlib.Nat.{zero-add, add-zero}
-use native.Mathlib.Omega.{arith}
-use lib.Dec.{leb, eqb}
-use lib.ListN.{length, get_or, take, drop, length-append, length-drop, drop_of_length-le}
-use lib.Seq.{take_all}
-use borrow.Author.Tests.{leb-true, leb-false}
+use Rattle.std.proofs.Common.{ℕ, zero, suc, ◌+◌, ◌-◌, ◌≤◌, ◌<◌, min, ◌≡◌, refl, sym, ap, ◌∙◌, Bool, true, false, List, [], ◌∷◌, ◌++◌, append-nil, zero-add, add-zero, arith, leb, eqb, length, get_or, take, drop, length-append, length-drop, drop_of_length-le, take_all, leb-true, leb-false}
 use Rattle.laws.proofs.Choice.{either}
 use Rattle.laws.specs.Buffers.{WrittenBuffer, wrote, put_at}
 use Rattle.laws.proofs.Buffers.{put_at-fits}

@@ -1,13 +1,7 @@
 -- What is decoded of an event's octets is what was logged, for each kind; and its report has the length of its type.
 -- Assumes nothing.
-use Prim.Native.Nat.{ℕ, ◌+◌, ◌<◌}
-use mathlib.Core.Path.{◌≡◌, refl, ap, ◌∙◌}
-use mathlib.Core.Bool.{Bool, true, false, ◌||◌}
-use mathlib.Core.List.{List, ◌++◌, append_assoc}
-use native.Mathlib.Omega.{arith}
-use lib.Dec.{eqb, ltb}
-use lib.ListN.{length, get_or, drop, get_or-append}
-use borrow.Author.Tests.{eq-eqb, eqb-true}
+use Rattle.std.proofs.Common.{ℕ, ◌+◌, ◌<◌, ◌≡◌, refl, ap, ◌∙◌, Bool, true, false, ◌||◌, List, ◌++◌, append_assoc, arith, eqb, ltb, length, get_or, drop, eq-eqb, eqb-true}
+use Rattle.std.proofs.Math.ListN.{get_or-append}
 use Rattle.laws.specs.Choice.{when◌then◌else◌}
 use Rattle.laws.proofs.Choice.{never}
 use Rattle.laws.proofs.Parts.{stands_at, stands-behind}

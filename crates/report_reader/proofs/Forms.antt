@@ -1,13 +1,9 @@
 -- What a reader told one form makes of the other: no length is one of both forms, so every event is refused; and all else is read the same.
 -- Assumes nothing.
-use Prim.Native.Nat.{ℕ, suc, ◌+◌, ◌-◌, ◌*◌, ◌≤◌}
-use mathlib.Core.Path.{◌≡◌, refl, sym, ap, fun_ext, ◌∙◌}
-use mathlib.Core.Bool.{Bool, true, false, ◌||◌}
-use mathlib.Core.List.{List, [], ◌∷◌, ◌++◌, map, map-append, append_assoc, append-nil}
-use native.Mathlib.Omega.{arith}
-use lib.Dec.{eqb, ltb}
-use lib.ListN.{length, get_or, drop, length-append}
-use borrow.Author.Tests.{eqb-true, eqb-false, leb-true, ne_eqb}
+use Rattle.std.proofs.Common.{ℕ, suc, ◌+◌, ◌-◌, ◌*◌, ◌≤◌, ◌≡◌, refl, sym, ap, ◌∙◌, Bool, true, false, ◌||◌, List, [], ◌∷◌, ◌++◌, map, append_assoc, append-nil, arith, eqb, ltb, length, get_or, drop, length-append, eqb-true, leb-true, ne_eqb}
+use Rattle.std.proofs.Math.Path.{fun_ext}
+use mathlib.Core.List.{map-append}
+use borrow.Author.Tests.{eqb-false}
 use Rattle.laws.specs.Choice.{when◌then◌else◌}
 use Rattle.laws.specs.Members.{All, nil, also, any}
 use Rattle.laws.specs.Buffers.{pieces}

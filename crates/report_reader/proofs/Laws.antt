@@ -1,20 +1,12 @@
 -- Laws of the reader: a time is read of the part that it stands in; an event's body is not shorter than its fields; a step that is not refused moves on, and not past the end; its verdict says the rest of it; its outline; where an event stands, an element was found, and how many octets it takes; a turn of the validating loop.
 -- Assumes nothing.
-use Prim.Native.Nat.{ℕ, ◌+◌, ◌-◌, ◌≤◌, ◌<◌}
-use mathlib.Core.Path.{◌≡◌, refl, sym, ap, ◌∙◌}
-use mathlib.Core.Bool.{Bool, true, false, not, ◌||◌}
-use mathlib.Core.List.{List, [], ◌∷◌}
-use native.Mathlib.Nat.{add-zero}
-use native.Mathlib.Omega.{arith}
-use lib.ListN.{length, get_or, take, drop, length-append}
-use lib.Dec.{eqb, ltb}
-use borrow.Author.Tests.{eqb-true, eqb-false, ltb-false, not-true, not-false, ne_eqb}
+use borrow.Author.Tests.{eqb-false, not-true, not-false}
 use Rattle.laws.specs.Choice.{when◌then◌else◌}
 use Rattle.laws.proofs.Walk.{Rest, start, last, again, done, go_on, stop_refused, stop_end}
 use Rattle.laws.proofs.Choice.{either, apply_if, never}
 use Rattle.octets.specs.declared.numbers.Kind.{Kind}
 use Rattle.octets.specs.declared.numbers.Kind.TheVariants.{Event, Diagnostic}
-use Rattle.std.proofs.Common.{Err}
+use Rattle.std.proofs.Common.{Err, ℕ, ◌+◌, ◌-◌, ◌≤◌, ◌<◌, ◌≡◌, refl, sym, ap, ◌∙◌, Bool, true, false, not, ◌||◌, List, [], ◌∷◌, add-zero, arith, length, get_or, take, drop, length-append, eqb, ltb, eqb-true, ltb-false, ne_eqb}
 use Rattle.octets.specs.declared.refusals.Refusal.{Refusal as CodeRefusal}
 use Rattle.octets.specs.Refusals.{no_refusal, bad_time, bad_requester_list, refusal_of}
 use Rattle.octets.proofs.RefusalLaws.{some_number}

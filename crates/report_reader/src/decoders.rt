@@ -154,6 +154,7 @@ fn times_in(form: u8, o: &[u8]) -> Times
     published_times(whole_of(o, &padded))
 }
 
+// As the other two below: what they share is in functions already, what is left is each one's own fields.
 pub fn transition_in(form: u8, o: &[u8]) -> TransitionReport
     ensures { result ≡ transition_in form o.now }
 {

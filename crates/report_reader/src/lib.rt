@@ -84,7 +84,9 @@ pub struct Report {
 }
 
 // ---- the verdict on one element, in two steps: its outline, then what it holds (as one function it
-// would not be inlined into the loop over a frame and into the cursor's step)
+// would not be inlined into the loop over a frame and into the cursor's step). Form, octets and kind are no
+// struct: with one, a report of 64 events takes 31,798 instructions behind `&self`, and 33,335 by value with no
+// end handed on, for 26,750.
 
 // Has an RSNA event, by the first octet of its EAP method, a body of n octets in a form?
 fn is_rsna_length(form: u8, first: u8, n: usize) -> bool
@@ -337,7 +339,7 @@ fn advance(w: Walk, v: Verdict) -> Walk
     }
 }
 
-// All elements from the front; the first refusal stops.
+// All elements from the front; the first refusal stops. A loop: each length tells where the next one starts.
 fn validate(form: u8, s: &[u8], kind: Kind) -> Result<Walk, Refusal>
     ensures { walk_read result ≡ walk_of (read_elements form s.now kind) }
 {

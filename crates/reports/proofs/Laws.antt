@@ -1,12 +1,6 @@
 -- Laws of report elements: their lengths, and their parts.
 -- Assumes nothing.
-use Prim.Native.Nat.{ℕ, suc, ◌+◌, ◌≤◌, ◌<◌, min}
-use mathlib.Core.Path.{◌≡◌, refl, sym, ap, ◌∙◌}
-use mathlib.Core.Bool.{Bool, true, false}
-use lib.Dec.{leb}
-use mathlib.Core.List.{List, [], ◌++◌, append-nil}
-use native.Mathlib.Omega.{arith}
-use lib.ListN.{length, take, length-append, length-take}
+use Rattle.std.proofs.Common.{ℕ, suc, ◌+◌, ◌≤◌, ◌<◌, min, ◌≡◌, refl, sym, ap, ◌∙◌, Bool, true, false, leb, List, [], ◌++◌, append-nil, arith, length, take, length-append, length-take, le-leb, leb-true, leb-false}
 use Rattle.laws.proofs.Arrays.{take_min}
 use Rattle.laws.specs.Choice.{when◌then◌else◌}
 use Rattle.laws.specs.Buffers.{onto, WrittenBuffer, wrote, put_front, put_at}
@@ -17,7 +11,7 @@ use Rattle.octets.specs.Numbers.{successful}
 use Rattle.events.specs.declared.Entry.{Entry}
 use Rattle.events.specs.Times.{time_length}
 use Rattle.events.specs.Log.{body_capacity, body_of, time_of}
-use borrow.Author.Tests.{le-leb, lt-leb, leb-true, leb-false}
+use borrow.Author.Tests.{lt-leb}
 use Rattle.std.specs.Prelude.{Some, None}
 use Rattle.reports.specs.Reports.{report_element, event_element, report_head, fitting, PutWhole}
 

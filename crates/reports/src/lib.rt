@@ -51,17 +51,16 @@ pub fn put_plain(buf: &mut [u8], kind: Kind, token: u8, ty: u8, status: u8) -> O
     put_report(buf, kind, token, ty, status, &[])
 }
 
-// A report with a list behind its status: len octets, at most 252 (a diagnostic's subelements).
+// A report with a list behind its status: a diagnostic's subelements, of which more than 252 octets are not taken.
 pub fn put_list(
     buf: &mut [u8],
     kind: Kind,
     token: u8,
     ty: u8,
     status: u8,
-    list: &[u8; 252],
-    len: usize,
+    list: &[u8],
 ) -> Option<usize>
-    ensures { PutWhole (report_element kind token ty status (take len list.now)) buf.old result buf.new }
+    ensures { PutWhole (report_element kind token ty status (take 252 list.now)) buf.old result buf.new }
 {
     put_report(
         buf,
@@ -69,7 +68,7 @@ pub fn put_list(
         token,
         ty,
         status,
-        &list[..least(len, LONGEST_LIST)],
+        &list[..least(LONGEST_LIST, list.len())],
     )
 }
 

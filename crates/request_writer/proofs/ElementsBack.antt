@@ -1,16 +1,9 @@
 -- The elements that were written are read back: the reader's walk and the writer's test of tokens go along the elements together.
 -- Assumes nothing.
-use Prim.Native.Nat.{ℕ, suc, ◌+◌, ◌-◌, ◌≤◌, ◌<◌}
-use mathlib.Core.Path.{◌≡◌, refl, sym, ap, ◌∙◌}
-use mathlib.Core.Bool.{Bool, true, false}
-use mathlib.Core.List.{List, [], ◌∷◌, ◌++◌, append_assoc, append-nil, map, map-append}
-use lib.ListN.{length, get_or, take, drop, set, length-append, length-map}
-use lib.Seq.{take_at}
-use lib.Dec.{ltb}
-use borrow.Author.Tests.{le-ltb, lt-leb, eq-eqb, ne_eqb, ltb-false}
-use native.Mathlib.Numerals.{add-one}
-use native.Mathlib.Nat.{add-zero, zero-add}
-use native.Mathlib.Omega.{arith}
+use Rattle.std.proofs.Common.{ℕ, suc, ◌+◌, ◌-◌, ◌≤◌, ◌<◌, ◌≡◌, refl, sym, ap, ◌∙◌, Bool, true, false, List, [], ◌∷◌, ◌++◌, append_assoc, append-nil, map, length, get_or, take, drop, set, length-append, take_at, ltb, le-ltb, eq-eqb, ne_eqb, ltb-false, add-one, add-zero, zero-add, arith}
+use Rattle.std.proofs.Math.ListN.{length-map}
+use mathlib.Core.List.{map-append}
+use borrow.Author.Tests.{lt-leb}
 use Rattle.laws.specs.Choice.{when◌then◌else◌}
 use Rattle.laws.specs.Buffers.{pieces}
 use Rattle.laws.proofs.Choice.{either}

@@ -1,14 +1,8 @@
 -- How long what is written is: an element at most 33 octets, a frame at most 267.
 -- Assumes nothing.
-use Prim.Native.Nat.{ℕ, suc, ◌+◌, ◌*◌, ◌≤◌, ◌<◌}
-use mathlib.Core.Path.{◌≡◌, refl, ◌∙◌}
-use mathlib.Core.Bool.{Bool, true, false}
-use mathlib.Core.List.{List, [], ◌∷◌}
-use lib.ListN.{length, get_or, take, length-append, length-take, get_or-eq_default}
-use lib.Dec.{eqb, leb, ltb}
-use borrow.Author.Tests.{ne_eqb, eqb-false, leb-true, ltb-true, ltb-false}
-use native.Mathlib.Omega.{arith}
-use native.Mathlib.Nat.{zero-add}
+use Rattle.std.proofs.Common.{ℕ, suc, ◌+◌, ◌*◌, ◌≤◌, ◌<◌, ◌≡◌, refl, ◌∙◌, Bool, true, false, List, [], ◌∷◌, length, get_or, take, length-append, length-take, eqb, leb, ltb, ne_eqb, leb-true, ltb-true, ltb-false, arith, zero-add}
+use Rattle.std.proofs.Math.ListN.{get_or-eq_default}
+use borrow.Author.Tests.{eqb-false}
 use Rattle.laws.specs.Choice.{when◌then◌else◌}
 use Rattle.laws.specs.Buffers.{pieces}
 use Rattle.laws.proofs.Choice.{either}

@@ -1,15 +1,8 @@
 -- What the writer writes, the reader reads to the same fields, for every input that the writer accepts.
 -- Assumes nothing.
-use Prim.Native.Nat.{ℕ, ◌≤◌}
-use mathlib.Core.Path.{◌≡◌, refl, ap, ◌∙◌}
-use mathlib.Core.Bool.{Bool, true, false, not}
-use mathlib.Core.List.{List, []}
-use lib.ListN.{length, take, drop, length-take}
-use lib.Seq.{take-append_seam}
-use lib.Dec.{ltb, eqb}
-use borrow.Author.Tests.{eq-eqb, eqb-true, eqb-false, ltb-false, not-true, not-false}
-use native.Mathlib.Nat.{zero-add}
-use native.Mathlib.Omega.{arith}
+use Rattle.std.proofs.Common.{ℕ, ◌≤◌, ◌≡◌, refl, ap, ◌∙◌, Bool, true, false, not, List, [], length, take, drop, length-take, ltb, eqb, eq-eqb, eqb-true, ltb-false, zero-add, arith}
+use Rattle.std.proofs.Math.Seq.{take-append_seam}
+use borrow.Author.Tests.{eqb-false, not-true, not-false}
 use Rattle.laws.specs.Choice.{when◌then◌else◌}
 use Rattle.laws.specs.Members.{All}
 use Rattle.laws.proofs.Members.{all_take}

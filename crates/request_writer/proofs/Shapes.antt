@@ -1,12 +1,11 @@
 -- The lengths of the arrays inside elements, which code has by their types.
 -- Assumes nothing.
-use mathlib.Core.List.{List, [], ◌∷◌, map}
+use Rattle.std.proofs.Common.{List, [], ◌∷◌, map, rules}
 use mir.Val.{Val}
 use base.Fml.{Fml}
 use denote.Array.{each}
 use denote.Shadow.{shadow}
 use borrow.Kind.Array.{e_struct}
-use borrow.Author.Rules.{rules}
 use Rattle.requests.specs.contracts.Element.{the_type}
 use Rattle.requests.proofs.Element.TheLaws.{the_laws, the_copy}
 use Rattle.laws.specs.Members.{All, nil, also}

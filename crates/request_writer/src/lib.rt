@@ -26,7 +26,7 @@ fn condition_length(ty: usize, id: usize, c: Condition) -> usize
 // A condition at the front of a buffer; its length.
 fn put_condition(buf: &mut [u8], ty: usize, id: usize, c: Condition) -> usize
     requires { (id < 5) × (length (condition_octets ty id c) ≤ length buf.old) }
-    ensures value { result ≡ length (condition_octets ty id c) }
+    ensures length { result ≡ length (condition_octets ty id c) }
     ensures put { buf.new ≡ onto (condition_octets ty id c) buf.old }
 {
     let n = condition_length(ty, id, c);
@@ -43,7 +43,7 @@ fn put_condition(buf: &mut [u8], ty: usize, id: usize, c: Condition) -> usize
 // The conditions of an event type, in rising ID order.
 fn put_filter(buf: &mut [u8], ty: usize, filter: [Condition; 5]) -> usize
     requires { length (filter_octets ty filter) ≤ length buf.old }
-    ensures value { (result ≡ length (filter_octets ty filter)) × (result ≤ 28) }
+    ensures length { (result ≡ length (filter_octets ty filter)) × (result ≤ 28) }
     ensures put { buf.new ≡ onto (filter_octets ty filter) buf.old }
 {
     let mut at: usize = 0;
@@ -55,7 +55,7 @@ fn put_filter(buf: &mut [u8], ty: usize, filter: [Condition; 5]) -> usize
 
 fn put_event(buf: &mut [u8], e: Element) -> usize
     requires { 33 ≤ length buf.old }
-    ensures value { (result ≡ length (element_octets Kind.Event e)) × (result ≤ 33) }
+    ensures length { (result ≡ length (element_octets Kind.Event e)) × (result ≤ 33) }
     ensures put { buf.new ≡ onto (element_octets Kind.Event e) buf.old }
 {
     let filter = e.filter;
@@ -73,7 +73,7 @@ fn put_event(buf: &mut [u8], e: Element) -> usize
 
 fn put_diagnostic(buf: &mut [u8], e: Element) -> usize
     requires { 33 ≤ length buf.old }
-    ensures value { (result ≡ length (element_octets Kind.Diagnostic e)) × (result ≤ 33) }
+    ensures length { (result ≡ length (element_octets Kind.Diagnostic e)) × (result ≤ 33) }
     ensures put { buf.new ≡ onto (element_octets Kind.Diagnostic e) buf.old }
 {
     let octets = [
@@ -90,7 +90,7 @@ fn put_diagnostic(buf: &mut [u8], e: Element) -> usize
 // An element at the front of a buffer; its length.
 fn put_element(buf: &mut [u8], kind: Kind, e: Element) -> usize
     requires { 33 ≤ length buf.old }
-    ensures value { (result ≡ length (element_octets kind e)) × (result ≤ 33) }
+    ensures length { (result ≡ length (element_octets kind e)) × (result ≤ 33) }
     ensures put { buf.new ≡ onto (element_octets kind e) buf.old }
 {
     match kind {
@@ -109,7 +109,7 @@ fn put_elements(
 ) -> Result<usize, Refusal>
     requires { length buf.old ≡ 264 }
     ensures answer { written result ≡ elements_answer kind es count }
-    ensures bound { (written result).length ≤ 267 }
+    ensures fits { (written result).length ≤ 267 }
     ensures put { (written result).refusal.number ≡ 0 → buf.new ≡ onto (elements_octets kind (take count es)) buf.old }
 {
     let mut at: usize = 0;

@@ -1,16 +1,7 @@
 -- Laws of diagnostic requests: of the late drop, of the elements left, and of an accepted frame.
 -- Assumes nothing.
-use Prim.Native.Nat.{ℕ, ◌+◌, ◌≤◌, ◌<◌}
-use mathlib.Core.Path.{◌≡◌, refl, sym, ap, ◌∙◌}
-use mathlib.Core.Bool.{Bool, true, false, ◌||◌}
-use mathlib.Core.List.{List, [], ◌∷◌, ◌++◌, map, append_assoc, append-nil}
-use mathlib.Core.Option.{none, some}
-use lib.Dec.{ltb}
-use lib.ListN.{length, get_or, take, drop, set, drop_of_length-le}
-use lib.Seq.{drop-cons, take-suc-set}
-use native.Mathlib.Numerals.{add-one}
-use native.Mathlib.Omega.{arith}
-use borrow.Author.Tests.{lt-ltb}
+use Rattle.std.proofs.Common.{ℕ, ◌+◌, ◌≤◌, ◌<◌, ◌≡◌, refl, sym, ap, ◌∙◌, Bool, true, false, ◌||◌, List, [], ◌∷◌, ◌++◌, map, append_assoc, append-nil, ltb, length, get_or, take, drop, set, drop_of_length-le, drop-cons, take-suc-set, add-one, arith, lt-ltb}
+use Rattle.std.proofs.Math.Option.{none, some}
 use Rattle.laws.specs.Members.{any}
 use Rattle.laws.specs.Choice.{when◌then◌else◌}
 use Rattle.model.specs.declared.Diagnostic.{Diagnostic}

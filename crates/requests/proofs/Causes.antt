@@ -1,8 +1,6 @@
 -- By which causes a request frame is refused: those of the table that speak of one, 1 to 10, and no other.
 -- Assumes nothing.
-use Prim.Native.Nat.{ℕ}
-use mathlib.Core.Path.{refl}
-use mathlib.Core.List.{List, ◌∷◌}
+use Rattle.std.proofs.Common.{ℕ, refl, List, ◌∷◌}
 use Rattle.laws.specs.Members.{Among, first}
 use Rattle.laws.proofs.Members.{among_test}
 use Rattle.laws.proofs.Choice.{either}

@@ -1,13 +1,7 @@
 -- Laws of the walk over elements: the number of subelements and of elements, tokens, and a turn of the walk's loop.
 -- Assumes nothing.
-use Prim.Native.Nat.{ℕ, ◌+◌, ◌-◌, ◌≤◌, ◌<◌}
-use mathlib.Core.Path.{◌≡◌, refl, ap, ◌∙◌}
-use mathlib.Core.Bool.{Bool, true, false}
-use mathlib.Core.List.{List}
-use lib.Dec.{ltb}
-use lib.ListN.{length, get_or, set, take, drop, length-take, length-set, drop_of_length-le}
-use borrow.Author.Tests.{eq-eqb, ne_eqb, eqb-true, eqb-false, leb-false, le-leb, lt-leb, lt-ltb, le-ltb, not-true, not-false}
-use native.Mathlib.Omega.{arith}
+use Rattle.std.proofs.Common.{ℕ, ◌+◌, ◌-◌, ◌≤◌, ◌<◌, ◌≡◌, refl, ap, ◌∙◌, Bool, true, false, List, ltb, length, get_or, set, take, drop, length-take, length-set, drop_of_length-le, eq-eqb, ne_eqb, eqb-true, leb-false, le-leb, lt-ltb, le-ltb, arith}
+use borrow.Author.Tests.{eqb-false, lt-leb, not-true, not-false}
 use Rattle.laws.specs.Members.{any}
 use Rattle.laws.specs.Choice.{when◌then◌else◌}
 use Rattle.laws.proofs.Choice.{either, never}

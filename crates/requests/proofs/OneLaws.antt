@@ -1,12 +1,6 @@
 -- One element by itself: each test on the way to a return of its reader.
 -- Assumes nothing.
-use Prim.Native.Nat.{ℕ, ◌≤◌, ◌<◌}
-use mathlib.Core.Path.{◌≡◌, ◌∙◌}
-use mathlib.Core.Bool.{true, false}
-use mathlib.Core.List.{List}
-use lib.ListN.{length, get_or}
-use borrow.Author.Tests.{eq-eqb, ne_eqb, lt-ltb, le-ltb}
-use native.Mathlib.Omega.{arith}
+use Rattle.std.proofs.Common.{ℕ, ◌≤◌, ◌<◌, ◌≡◌, ◌∙◌, true, false, List, length, get_or, eq-eqb, ne_eqb, lt-ltb, le-ltb, arith}
 use Rattle.laws.specs.Members.{any}
 use Rattle.laws.specs.Choice.{when◌then◌else◌}
 use Rattle.octets.specs.declared.numbers.Kind.TheVariants.{Event}

@@ -32,7 +32,7 @@ pub struct Element {
     pub filter: [Condition; 5],
 }
 
-// What a reader finds: a request of count elements; the places past them are blank.
+// What a reader finds: a request of count elements; the places past them are blank. A count, no Vec: no heap.
 #[derive(Clone, Copy)]
 pub struct Request {
     pub kind: Kind,
@@ -41,7 +41,7 @@ pub struct Request {
     pub elements: [Element; ELEMENT_CAPACITY],
 }
 
-// The octets of a body before its subelements.
+// The octets of a body before its subelements. No number of Kind's own: only the reader of requests asks.
 fn least_body(kind: Kind) -> usize
     ensures { result ≡ least_body kind }
 {
@@ -185,7 +185,8 @@ pub fn lacks_element(kind: Kind, count: usize) -> bool
 }
 
 // The elements behind the three octets of the header. They are a local of their own, no field of what
-// is returned: the compiler then makes them where the caller wants them.
+// is returned: the compiler then makes them where the caller wants them. A loop: each length tells where the
+// next one starts.
 fn read_elements(s: &[u8], kind: Kind) -> Result<Request, Refusal>
     requires { length s.now ≤ 2304 }
     ensures { request_read result ≡ request_of kind (get_or s.now 2 0) (walk_elements element_capacity s.now kind) }

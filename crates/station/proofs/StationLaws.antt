@@ -1,17 +1,12 @@
 -- Laws of the station's views, and of what setup does not refuse.
 -- Assumes nothing.
-use Prim.Native.Nat.{ℕ, ◌≤◌, ◌<◌}
-use mathlib.Core.Path.{◌≡◌, refl, sym, ap, ◌∙◌}
-use mathlib.Core.Bool.{Bool, true, false}
-use mathlib.Core.List.{List, [], ◌∷◌, ◌++◌, map}
-use mathlib.Core.Option.{none, some}
-use lib.Dec.{eqb}
-use lib.ListN.{length, take, drop}
-use lib.Seq.{take-length, take_at}
-use borrow.Author.Tests.{ltb-false, eqb-true, eqb-false, eq-eqb, ne_eqb}
-use native.Mathlib.Omega.{arith}
+use Rattle.std.proofs.Common.{ℕ, ◌≤◌, ◌<◌, min, ◌≡◌, refl, sym, ap, ◌∙◌, Bool, true, false, List, [], ◌∷◌, ◌++◌, map, eqb, length, take, drop, length-take, take_all, take_at, ltb-false, eqb-true, eq-eqb, ne_eqb, arith}
+use Rattle.std.proofs.Math.Option.{none, some}
+use Rattle.std.proofs.Math.Seq.{take-length}
+use borrow.Author.Tests.{eqb-false}
 use Rattle.laws.specs.Choice.{when◌then◌else◌}
 use Rattle.laws.specs.Buffers.{onto}
+use Rattle.laws.proofs.Arrays.{take_within, length-within}
 use Rattle.laws.proofs.Choice.{either}
 use Rattle.units.specs.Time.{elapsed_since}
 use Rattle.octets.specs.Refusals.{refused, bad_requester_list, bad_identity, number_unless}
@@ -56,6 +51,20 @@ view_none n o e = rw (eq-eqb n 0 e)
 view_some : (n : ℕ) (o : List ℕ) → (n ≡ 0 → ⊥) → view_identity n o ≡ some (take n o)
 unfolding view_identity when◌then◌else◌
 view_some n o e = rw (ne_eqb n 0 e)
+
+-- an identity cut at its length, which a report call is lent
+pub identity-cut : (n : ℕ) (o : List ℕ) → length o ≡ 252 → (end : ℕ) → end ≡ min n 252 → view_identity (length (take end o)) (take 252 (take end o)) ≡ view_identity n o
+identity-cut n o whole end h = go (eqb n 0) refl
+  where
+    short : length (take end o) ≡ end
+    short = length-within o 252 end whole n h
+
+    go : (b : Bool) → eqb n 0 ≡ b → view_identity (length (take end o)) (take 252 (take end o)) ≡ view_identity n o
+    go true e = view_none _ _ (omega (arith, short, h, eqb-true n 0 e)) ∙ sym (view_none n o (eqb-true n 0 e))
+    go false e =
+        view_some _ _ (λ z. eqb-false n 0 e (omega (arith, short, h, z)))
+        ∙ ap some (take_all _ _ (omega (arith, length-take 252 (take end o))) ∙ take_all 252 (take end o) (omega (arith, short, h)) ∙ take_within o 252 end whole n h)
+        ∙ sym (view_some n o (eqb-false n 0 e))
 
 -- a station that names the requesters of a list
 view-named : (t : Timer) (n : ℕ) (o : List ℕ) (log : Log) (l : List Listed) → (n ≡ 0 → ⊥) → length l ≤ requester_capacity → view (named_station t o n log l) ≡ new_station (view_timer t) (take n o) (logged log) l

@@ -1,5 +1,5 @@
 // Report calls.
-ghost use Rattle.std.specs.Prelude.{◌≡◌};
+ghost use Rattle.std.specs.Prelude.{◌≡◌, length, take};
 ghost use Rattle.units.specs.Time.{elapsed_since};
 ghost use Rattle.model.specs.Clocks.{elapsed_clock};
 ghost use Rattle.model.specs.Model.{standard, report as model_report};
@@ -24,18 +24,17 @@ use units::Milliseconds;
 fn serve_report(
     r: Requester,
     found: bool,
-    identity: &[u8; 252],
-    len: usize,
+    identity: &[u8],
     log: Log,
     kind: Kind,
     buf: &mut [u8],
 ) -> Served
-    ensures { view_served result buf.new ≡ serve_if found (give_report elapsed_since (view_identity len identity.now) (logged log) kind buf.old) buf.old (view_requester r) }
+    ensures { view_served result buf.new ≡ serve_if found (give_report elapsed_since (view_identity (length identity.now) (take 252 identity.now)) (logged log) kind buf.old) buf.old (view_requester r) }
 {
     if !found {
         return left_alone(r, Cause::UnknownRequester);
     }
-    give_report(r, identity, len, log, kind, buf)
+    give_report(r, identity, log, kind, buf)
 }
 
 impl Station {
@@ -54,7 +53,8 @@ impl Station {
         let before = self.timer;
         let timer = advanced(before, reading);
         let now = timer.now;
-        let identity = self.identity;
+        let octets = self.identity;
+        let identity = &octets[..least(self.length, octets.len())];
         let log = self.log;
         let all = self.requesters;
         let i = find(all, self.count, source);
@@ -62,7 +62,7 @@ impl Station {
         let found = i < least(self.count, REQUESTER_CAPACITY);
         let at = least(i, REQUESTER_LAST);
         let r = requesters[at];
-        let s = serve_report(r, found, &identity, self.length, log, kind, buf);
+        let s = serve_report(r, found, identity, log, kind, buf);
         let requester = s.requester;
         let answer = s.answer;
         requesters[at] = requester;

@@ -1,15 +1,7 @@
 -- Laws of a body in its eight places.
 -- Assumes nothing.
-use Prim.Native.Nat.{ℕ, ◌+◌, ◌≤◌, ◌<◌, min}
-use mathlib.Core.Path.{◌≡◌, refl, sym, ap, ◌∙◌}
-use mathlib.Core.Bool.{Bool, true, false}
-use mathlib.Core.List.{List, ◌++◌}
-use native.Mathlib.Nat.{zero-add}
-use native.Mathlib.Omega.{arith}
-use lib.Dec.{leb, ltb}
-use lib.ListN.{length, get_or, take, drop, get_or-append, get_or-eq_default}
-use lib.Seq.{get_or-take, length-take-le}
-use borrow.Author.Tests.{ltb-true, leb-true, leb-false}
+use Rattle.std.proofs.Common.{ℕ, ◌+◌, ◌≤◌, ◌<◌, min, ◌≡◌, refl, sym, ap, ◌∙◌, Bool, true, false, List, ◌++◌, zero-add, arith, leb, ltb, length, get_or, take, drop, get_or-take, length-take-le, ltb-true, leb-true, leb-false}
+use Rattle.std.proofs.Math.ListN.{get_or-append, get_or-eq_default}
 use Rattle.laws.specs.Choice.{when◌then◌else◌}
 use Rattle.laws.proofs.Parts.{stands_at}
 use Rattle.subelements.specs.Subelements.{body_octet, body_at}

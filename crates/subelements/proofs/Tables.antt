@@ -1,14 +1,8 @@
 -- Laws of the tables of lengths: what holds of every row is found by computation.
 -- Assumes nothing.
-use Prim.Native.Nat.{ℕ, zero, suc, ◌≤◌, ◌<◌}
-use mathlib.Core.Path.{◌≡◌, refl, ap, ◌∙◌}
-use mathlib.Core.Bool.{Bool, true, false, ◌&&◌}
-use mathlib.Core.List.{List, []}
-use native.Mathlib.Nat.{not-suc-le-zero}
-use native.Mathlib.Omega.{arith}
-use lib.Dec.{leb, ltb, eqb}
-use lib.ListN.{get_or, get_or-eq_default}
-use borrow.Author.Tests.{leb-true, ltb-true, ltb-false, eqb-true, eqb-false}
+use Rattle.std.proofs.Common.{ℕ, zero, suc, ◌≤◌, ◌<◌, ◌≡◌, refl, ap, ◌∙◌, Bool, true, false, ◌&&◌, List, [], not-suc-le-zero, arith, leb, ltb, eqb, get_or, leb-true, ltb-true, ltb-false, eqb-true}
+use Rattle.std.proofs.Math.ListN.{get_or-eq_default}
+use borrow.Author.Tests.{eqb-false}
 use Rattle.laws.proofs.Choice.{either}
 use Rattle.laws.proofs.Walk.{and_first, and_second}
 use Rattle.subelements.specs.declared.Length.{Length}

@@ -9,7 +9,8 @@ ghost use Rattle.subelements.specs.Subelements.{row_of, length_of, body_octet, b
 use octets::{Cause, Refusal, octet, piece_end, size};
 
 // The subelement of one ID of the table: absent (its octets 0), or present with its body (0 past
-// its length). In a request element of an event type with a table it is a condition.
+// its length). In a request element of an event type with a table it is a condition. A flag beside
+// its octets, since C lends the memory of the station, which keeps it.
 #[repr(C)]
 #[derive(Clone, Copy)]
 pub struct Condition {
@@ -17,8 +18,8 @@ pub struct Condition {
     pub octets: [u8; 8],
 }
 
-// How far a walk has come: the next position, the number of subelements walked, and the condition of
-// each ID of the table.
+// How far a walk has come: the next position, the number of subelements walked, those of other IDs too, and
+// the condition of each ID of the table.
 #[derive(Clone, Copy)]
 pub struct Subelements {
     pub at: usize,
@@ -29,7 +30,8 @@ pub struct Subelements {
 // How many event types have a table: 0 transitions, 1 RSNA events, 2 peer links.
 pub const TABLES: usize = 3;
 
-// A body length, and the one where the body's first octet is 254. 0: the ID is reserved.
+// A body length, and the one where the body's first octet is 254. 0: the ID is
+// reserved. No Option: an event adds its method's length, and the writer writes so many octets.
 #[derive(Clone, Copy)]
 pub struct Length {
     pub plain: usize,
@@ -145,7 +147,7 @@ fn walk_from(at: usize) -> Subelements
 }
 
 // The subelements of a request element of an event type, from a position to its end. A type without a
-// table has them walked for their edges only.
+// table has them walked for their edges only. A loop: each length tells where the next one starts.
 pub fn walk(s: &[u8], ty: usize, from: usize, end: usize) -> Result<Subelements, Refusal>
     ensures { walk_read result ≡ subelements_walk s.now ty from end }
 {
@@ -178,7 +180,8 @@ pub fn walk(s: &[u8], ty: usize, from: usize, end: usize) -> Result<Subelements,
     Ok(w)
 }
 
-// The subelements of a diagnostic report, which are walked for their edges only: no table, no filter.
+// The subelements of a diagnostic report, which are walked for their edges only: no table, no filter. A loop,
+// as `walk`.
 pub fn walk_edges(s: &[u8], from: usize, end: usize) -> Result<Subelements, Refusal>
     ensures { walk_read result ≡ subelements_walk s.now tables from end }
 {

@@ -1,15 +1,6 @@
 -- Laws of numbers as text.
 -- Assumes nothing.
-use Prim.Native.Nat.{ℕ, zero, suc, ◌+◌, ◌-◌, ◌/◌, ◌%◌, ◌^◌, ◌≤◌, ◌<◌}
-use mathlib.Core.Path.{◌≡◌, sym, ◌∙◌, ap}
-use mathlib.Core.Bool.{true, false, ◌&&◌}
-use mathlib.Core.List.{List, [], ◌∷◌, ◌++◌}
-use native.Mathlib.Omega.{arith}
-use native.Mathlib.Nat.{div-lt_iff_lt-mul, pow-suc}
-use lib.Dec.{eqb, leb}
-use lib.ListN.{length, drop, set, length-append, length-set}
-use lib.Seq.{drop-cons, get_or-set_same, drop-set-lt}
-use borrow.Author.Tests.{eq-eqb, le-leb}
+use Rattle.std.proofs.Common.{ℕ, zero, suc, ◌+◌, ◌-◌, ◌/◌, ◌%◌, ◌^◌, ◌≤◌, ◌<◌, ◌≡◌, sym, ◌∙◌, ap, true, false, ◌&&◌, List, [], ◌∷◌, ◌++◌, arith, div-lt_iff_lt-mul, pow-suc, eqb, leb, length, drop, set, length-append, length-set, drop-cons, get_or-set_same, drop-set-lt, eq-eqb, le-leb}
 use Rattle.laws.specs.Choice.{when◌then◌else◌}
 use Rattle.laws.specs.Buffers.{wrote, put_at}
 use Rattle.laws.proofs.Choice.{either}

@@ -1,13 +1,6 @@
 -- Laws of texts put one behind the other: parts that are written so are the whole, written at once.
 -- Assumes nothing.
-use Prim.Native.Nat.{ℕ, ◌+◌, ◌*◌, ◌≤◌, ◌<◌}
-use mathlib.Core.Path.{◌≡◌, refl, sym, ap, ◌∙◌}
-use mathlib.Core.List.{List, [], ◌∷◌, ◌++◌, append_assoc, append-nil}
-use lib.ListN.{length, get_or, take, drop, length-append, take-append-drop}
-use lib.Seq.{drop-drop, length-take-le, take_at, take-suc, take_all}
-use native.Mathlib.Numerals.{add-one}
-use native.Mathlib.Nat.{zero-add, mul-le-mul_left}
-use native.Mathlib.Omega.{arith}
+use Rattle.std.proofs.Common.{ℕ, ◌+◌, ◌*◌, ◌≤◌, ◌<◌, ◌≡◌, refl, sym, ap, ◌∙◌, List, [], ◌∷◌, ◌++◌, append_assoc, append-nil, length, get_or, take, drop, length-append, take-append-drop, drop-drop, length-take-le, take_at, take-suc, take_all, add-one, zero-add, mul-le-mul_left, arith}
 use Rattle.laws.specs.Buffers.{onto, pieces, WrittenBuffer, wrote, put_at}
 use Rattle.laws.proofs.Buffers.{put_at-fits, Putting, putting_at, putting_length, putting_done, putting_end}
 use Rattle.laws.proofs.Pieces.{pieces_snoc}

@@ -1,4 +1,5 @@
-// The fields of each record; octets past the end of the input are 0.
+// The fields of each record, by a function for each: no two have the same fields in the same places. Octets past
+// the end of the input are 0.
 ghost use Rattle.std.specs.Prelude.{◌≡◌, ◌+◌, ◌≤◌, length};
 ghost use Rattle.traces.specs.Records.{fields_of, milliseconds_at, times_at, requesters_at, span_at, setup_fields, transition_fields, frame_fields, report_fields, move_fields, rsna_fields, peer_link_fields, writer_fields, reader_fields, explain_fields};
 

@@ -62,7 +62,8 @@ impl Elapsed {
         Elapsed(self.0.saturating_add(u64::from(by.0)))
     }
 
-    // The age between this time and an earlier one; 0 where that is not earlier.
+    // The age between this time and an earlier one; 0 where that is not earlier. No twin of the counter's, which
+    // wraps.
     pub fn since(self, earlier: Elapsed) -> Elapsed
         ensures { result.0 ≡ elapsed_since self.0 earlier.0 }
     {
@@ -83,7 +84,7 @@ impl Elapsed {
         Elapsed::from(limit) < self
     }
 
-    // Is this time at or after another?
+    // Is this time at or after another? As a TimeUnits' `at_least`: a trait for the two would be longer than they are.
     pub fn at_least(self, earliest: Elapsed) -> bool
         ensures { result ≡ at_least self.0 earliest.0 }
     {

@@ -1,6 +1,7 @@
 -- `identities::good_identity` meets its contract.
 -- Assumes nothing.
-use borrow.Author.Tests.{lt-ltb, le-ltb, lt-leb}
+use Rattle.std.proofs.Common.{lt-ltb, le-ltb}
+use borrow.Author.Tests.{lt-leb}
 use Rattle.laws.specs.Choice.{when◌then◌else◌}
 use Rattle.identities.specs.Identity.{good_identity}
 use Rattle.identities.proofs.good_identity.Goals as goal

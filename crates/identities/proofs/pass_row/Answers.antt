@@ -1,7 +1,6 @@
 -- `identities::pass_row` meets its contract: each return rewrites with the tests that led there.
 -- Assumes nothing.
-use Rattle.std.proofs.Common.{◌∙◌, arith}
-use borrow.Author.Tests.{lt-ltb, le-ltb, ne_eqb}
+use Rattle.std.proofs.Common.{◌∙◌, arith, lt-ltb, le-ltb, ne_eqb}
 use Rattle.laws.specs.Choice.{when◌then◌else◌}
 use Rattle.octets.proofs.ElementLaws.{piece_ends, at_place, no_place}
 use Rattle.identities.specs.Identity.{pass_row}

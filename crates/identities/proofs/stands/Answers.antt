@@ -1,6 +1,6 @@
 -- `identities::stands` meets its contract.
 -- Assumes nothing.
-use borrow.Author.Tests.{lt-ltb, le-ltb}
+use Rattle.std.proofs.Common.{lt-ltb, le-ltb}
 use Rattle.identities.specs.Identity.{stands}
 use Rattle.identities.proofs.stands.Goals as goal
 

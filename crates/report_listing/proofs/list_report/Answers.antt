@@ -1,6 +1,6 @@
 -- `report_listing::list_report` meets its contract.
 -- Assumes nothing.
-use borrow.Author.Rules.{rules}
+use Rattle.std.proofs.Common.{rules}
 use Rattle.texts.proofs.PutLaws.{whole}
 use Rattle.report_listing.proofs.list_report.Goals as goal
 

@@ -1,6 +1,6 @@
 -- `report_listing::put_bare` meets its contract.
 -- Assumes nothing.
-use native.Mathlib.Omega.{arith}
+use Rattle.std.proofs.Common.{arith}
 use Rattle.texts.proofs.PutLaws.{one, at_most, both}
 use Rattle.report_listing.specs.Listing.{bare_text}
 use Rattle.report_listing.proofs.put_bare.Goals as goal

@@ -1,9 +1,6 @@
 -- `report_listing::put_colons` meets its contract.
 -- Assumes nothing.
-use Prim.Native.Nat.{◌-◌}
-use native.Mathlib.Omega.{arith}
-use lib.ListN.{length, drop, length-drop}
-use lib.Seq.{take_all}
+use Rattle.std.proofs.Common.{◌-◌, arith, length, drop, length-drop, take_all}
 use Rattle.texts.proofs.PutLaws.{short, at_most, both}
 use Rattle.report_listing.specs.Listing.{colon_text}
 use Rattle.report_listing.proofs.put_colons.Goals as goal

@@ -1,9 +1,8 @@
 -- `report_listing::put_elements` meets its contract. The invariant, `Listed`: the elements that were handed out are written, and what is left of the walk gives the rest.
 -- Assumes nothing.
-use Rattle.std.proofs.Common.{sym, ap, ◌∙◌, arith}
+use Rattle.std.proofs.Common.{sym, ap, ◌∙◌, arith, rules}
 use Rattle.report_reader.specs.Reader.{step_read}
 use Rattle.report_reader.proofs.Laws.{goes_on, found_extent}
-use borrow.Author.Rules.{rules}
 use Rattle.report_listing.proofs.Laws.{listed_start, listed_next, listed_end, accepted, step_ok}
 use Rattle.report_listing.proofs.put_elements.Goals as goal
 

@@ -1,7 +1,6 @@
 -- `report_listing::put_elements` meets its contract. The invariant, `Listed`: the elements that were handed out are written, and what is left of the walk gives the rest.
 -- Assumes nothing.
-use Prim.Native.Nat.{◌-◌}
-use lib.ListN.{length}
+use Rattle.std.proofs.Common.{◌-◌, length}
 use Rattle.report_listing.proofs.Laws.{Listed}
 use Rattle.report_listing.proofs.put_elements.Given as goal
 

@@ -1,7 +1,6 @@
 -- `report_listing::put_event` meets its contract: by the type number.
 -- Assumes nothing.
-use native.Mathlib.Omega.{arith}
-use borrow.Author.Tests.{ne_eqb}
+use Rattle.std.proofs.Common.{arith, ne_eqb}
 use Rattle.laws.specs.Choice.{when◌then◌else◌}
 use Rattle.report_reader.specs.Decoders.{decoded}
 use Rattle.report_listing.specs.Listing.{event_text}

@@ -1,7 +1,6 @@
 -- `report_listing::put_event_tail` meets its contract.
 -- Assumes nothing.
-use native.Mathlib.Omega.{arith}
-use borrow.Author.Tests.{eq-eqb, ne_eqb}
+use Rattle.std.proofs.Common.{arith, eq-eqb, ne_eqb}
 use Rattle.laws.specs.Choice.{when◌then◌else◌}
 use Rattle.texts.proofs.PutLaws.{at_most, nothing}
 use Rattle.report_listing.specs.Listing.{event_tail}

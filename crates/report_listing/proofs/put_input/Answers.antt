@@ -1,10 +1,6 @@
 -- `report_listing::put_input` meets its contract: each return rewrites with the tests that led there.
 -- Assumes nothing.
-use Prim.Native.Nat.{◌-◌}
-use native.Mathlib.Omega.{arith}
-use lib.ListN.{length, drop, length-drop}
-use lib.Seq.{take_all}
-use borrow.Author.Tests.{lt-ltb, le-ltb}
+use Rattle.std.proofs.Common.{◌-◌, arith, length, drop, length-drop, take_all, lt-ltb, le-ltb}
 use Rattle.laws.specs.Choice.{when◌then◌else◌}
 use Rattle.texts.proofs.PutLaws.{short, at_most}
 use Rattle.report_listing.specs.Listing.{input_listing, report_listing_most}

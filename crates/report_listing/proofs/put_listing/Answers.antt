@@ -1,7 +1,6 @@
 -- `report_listing::put_listing` meets its contract.
 -- Assumes nothing.
-use Rattle.std.proofs.Common.{refl, arith}
-use borrow.Author.Tests.{ne_eqb}
+use Rattle.std.proofs.Common.{refl, arith, ne_eqb}
 use Rattle.laws.specs.Choice.{when◌then◌else◌}
 use Rattle.octets.proofs.RefusalLaws.{some_number}
 use Rattle.texts.proofs.PutLaws.{short, at_most, both}

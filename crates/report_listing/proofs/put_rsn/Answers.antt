@@ -1,15 +1,11 @@
 -- `report_listing::put_rsn` meets its contract.
 -- Assumes nothing.
-use mathlib.Core.Path.{◌≡◌}
-use native.Mathlib.Omega.{arith}
-use lib.ListN.{length, length-take}
-use borrow.Author.Tests.{eq-eqb, ne_eqb}
+use Rattle.std.proofs.Common.{◌≡◌, arith, length, length-take, eq-eqb, ne_eqb, rules}
 use Rattle.laws.specs.Choice.{when◌then◌else◌}
 use Rattle.laws.proofs.Arrays.{take_within}
 use Rattle.events.specs.RsnaEvents.{rsn_length}
 use Rattle.texts.proofs.PutLaws.{at_most, nothing}
 use Rattle.report_listing.specs.Listing.{rsn_text}
-use borrow.Author.Rules.{rules}
 use Rattle.report_listing.proofs.put_rsn.Goals as goal
 
 pub returns-then-size-eq0 : goal.returns-then-size-eq0

@@ -1,7 +1,7 @@
 -- `report_listing::put_time_field` meets its contract.
 -- Assumes nothing.
+use Rattle.std.proofs.Common.{rules}
 use Rattle.report_listing.proofs.Laws.{time_unknown, time_known}
-use borrow.Author.Rules.{rules}
 use Rattle.report_listing.proofs.put_time_field.Goals as goal
 
 pub returns-then-n-ones : goal.returns-then-n-ones

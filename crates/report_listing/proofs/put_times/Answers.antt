@@ -1,7 +1,6 @@
 -- `report_listing::put_times` meets its contract: by the form.
 -- Assumes nothing.
-use native.Mathlib.Omega.{arith}
-use borrow.Author.Tests.{ne_eqb}
+use Rattle.std.proofs.Common.{arith, ne_eqb}
 use Rattle.laws.specs.Choice.{when◌then◌else◌}
 use Rattle.texts.proofs.PutLaws.{at_most}
 use Rattle.report_listing.specs.Listing.{times_text}

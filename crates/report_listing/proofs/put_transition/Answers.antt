@@ -1,12 +1,9 @@
 -- `report_listing::put_transition` meets its contract.
 -- Assumes nothing.
-use mathlib.Core.Path.{◌≡◌}
-use native.Mathlib.Omega.{arith}
-use lib.ListN.{length}
+use Rattle.std.proofs.Common.{◌≡◌, arith, length, rules}
 use Rattle.texts.proofs.PutLaws.{short, at_most, both}
 use Rattle.report_listing.specs.Listing.{transition_text}
 use Rattle.report_listing.specs.Internal.{event_most}
-use borrow.Author.Rules.{rules}
 use Rattle.report_listing.proofs.put_transition.Goals as goal
 
 pub returns : goal.returns

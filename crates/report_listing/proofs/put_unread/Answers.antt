@@ -1,7 +1,6 @@
 -- `report_listing::put_unread` meets its contract.
 -- Assumes nothing.
-use native.Mathlib.Omega.{arith}
-use borrow.Author.Tests.{lt-ltb, le-ltb}
+use Rattle.std.proofs.Common.{arith, lt-ltb, le-ltb}
 use Rattle.laws.specs.Choice.{when◌then◌else◌}
 use Rattle.texts.proofs.PutLaws.{short, at_most, nothing}
 use Rattle.report_listing.specs.Listing.{unread_text}

@@ -1,14 +1,9 @@
 -- `report_listing::put_vendor` meets its contract.
 -- Assumes nothing.
-use mathlib.Core.Path.{◌≡◌}
-use native.Mathlib.Omega.{arith}
-use lib.ListN.{length, drop, length-take, length-drop}
-use lib.Seq.{take_all}
-use borrow.Author.Tests.{eq-eqb, ne_eqb}
+use Rattle.std.proofs.Common.{◌≡◌, arith, length, drop, length-take, length-drop, take_all, eq-eqb, ne_eqb, rules}
 use Rattle.laws.specs.Choice.{when◌then◌else◌}
 use Rattle.texts.proofs.PutLaws.{at_most, nothing, both}
 use Rattle.report_listing.specs.Listing.{vendor_text}
-use borrow.Author.Rules.{rules}
 use Rattle.report_listing.proofs.put_vendor.Goals as goal
 
 pub returns-then-method : goal.returns-then-method

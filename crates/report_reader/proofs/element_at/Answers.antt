@@ -1,7 +1,7 @@
 -- `report_reader::element_at` meets its contract.
 -- Assumes nothing.
+use Rattle.std.proofs.Common.{rules}
 use Rattle.report_reader.specs.Internal.{found_element}
-use borrow.Author.Rules.{rules}
 use Rattle.report_reader.proofs.element_at.Goals as goal
 
 pub returns : goal.returns

@@ -1,9 +1,6 @@
 -- `report_reader::good_time_at` meets its contract: the time is read of the part that it stands in.
 -- Assumes nothing.
-use mathlib.Core.Path.{◌∙◌}
-use Prim.Native.Nat.{◌+◌, ◌-◌}
-use native.Mathlib.Omega.{arith}
-use borrow.Author.Tests.{ne_eqb}
+use Rattle.std.proofs.Common.{◌∙◌, ◌+◌, ◌-◌, arith, ne_eqb}
 use Rattle.laws.specs.Choice.{when◌then◌else◌}
 use Rattle.report_reader.specs.Reader.{good_time_at}
 use Rattle.report_reader.proofs.Laws.{time_part}

@@ -1,10 +1,6 @@
 -- `report_reader::is_event_length` meets its contract: by the type number.
 -- Assumes nothing.
-use Prim.Native.Nat.{ℕ, ◌+◌}
-use mathlib.Core.Path.{ap, ◌∙◌}
-use lib.ListN.{get_or}
-use native.Mathlib.Omega.{arith}
-use borrow.Author.Tests.{ne_eqb}
+use Rattle.std.proofs.Common.{ℕ, ◌+◌, ap, ◌∙◌, get_or, arith, ne_eqb}
 use Rattle.laws.specs.Choice.{when◌then◌else◌}
 use Rattle.events.specs.RsnaEvents.{method_offset}
 use Rattle.report_reader.specs.Reader.{is_rsna_length, is_event_length}

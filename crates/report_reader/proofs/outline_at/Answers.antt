@@ -1,7 +1,6 @@
 -- `report_reader::outline_at` meets its contract: each return rewrites with the tests that led there.
 -- Assumes nothing.
-use Rattle.std.proofs.Common.{refl, sym, ◌∙◌, length, arith}
-use borrow.Author.Tests.{eq-eqb, ne_eqb}
+use Rattle.std.proofs.Common.{refl, sym, ◌∙◌, length, arith, eq-eqb, ne_eqb}
 use Rattle.laws.specs.Choice.{when◌then◌else◌}
 use Rattle.octets.proofs.ElementLaws.{piece_ends, at_place, no_place}
 use Rattle.octets.specs.Refusals.{element_past_end}

@@ -1,10 +1,6 @@
 -- `report_reader::outline_event` meets its contract: by length, status and type number.
 -- Assumes nothing.
-use mathlib.Core.Path.{refl}
-use native.Mathlib.Omega.{arith}
-use Prim.Native.Nat.{◌+◌}
-use lib.ListN.{get_or}
-use borrow.Author.Tests.{eq-eqb, ne_eqb, lt-ltb, le-ltb}
+use Rattle.std.proofs.Common.{refl, arith, ◌+◌, get_or, eq-eqb, ne_eqb, lt-ltb, le-ltb}
 use Rattle.laws.specs.Choice.{when◌then◌else◌}
 use Rattle.octets.specs.declared.numbers.Kind.TheVariants.{Event}
 use Rattle.octets.specs.Refusals.{bad_report_body}

@@ -1,8 +1,6 @@
 -- `report_reader::outline_own` meets its contract: each return rewrites with the tests that led there.
 -- Assumes nothing.
-use mathlib.Core.Path.{refl}
-use native.Mathlib.Omega.{arith}
-use borrow.Author.Tests.{lt-ltb, le-ltb}
+use Rattle.std.proofs.Common.{refl, arith, lt-ltb, le-ltb}
 use Rattle.laws.specs.Choice.{when◌then◌else◌}
 use Rattle.octets.specs.Refusals.{short_element, bad_report_body}
 use Rattle.report_reader.specs.Reader.{own_report_step}

@@ -1,8 +1,6 @@
 -- `report_reader::outline_typed` meets its contract: each return rewrites with the tests that led there.
 -- Assumes nothing.
-use mathlib.Core.Path.{refl, sym, ◌∙◌}
-use native.Mathlib.Omega.{arith}
-use borrow.Author.Tests.{ne_eqb}
+use Rattle.std.proofs.Common.{refl, sym, ◌∙◌, arith, ne_eqb}
 use Rattle.laws.specs.Choice.{when◌then◌else◌}
 use Rattle.octets.specs.declared.numbers.Kind.TheVariants.{Event}
 use Rattle.octets.specs.Refusals.{bad_report_body}

@@ -1,7 +1,6 @@
 -- `report_reader::read_report` meets its contract: each return rewrites with the tests that led there.
 -- Assumes nothing.
-use Rattle.std.proofs.Common.{ap, ◌∙◌}
-use borrow.Author.Tests.{ne_eqb}
+use Rattle.std.proofs.Common.{ap, ◌∙◌, ne_eqb}
 use Rattle.laws.specs.Choice.{when◌then◌else◌}
 use Rattle.octets.specs.Frames.{frame_kind}
 use Rattle.octets.proofs.RefusalLaws.{some_number}

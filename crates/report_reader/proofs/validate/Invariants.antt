@@ -1,7 +1,6 @@
 -- `report_reader::validate` meets its contract. The invariant, `Validating`: the walk is what is kept of a reading, and what is left of that gives the whole.
 -- Assumes nothing.
-use Prim.Native.Nat.{◌-◌}
-use lib.ListN.{length}
+use Rattle.std.proofs.Common.{◌-◌, length}
 use Rattle.report_reader.specs.Internal.{walk_kept}
 use Rattle.report_reader.proofs.Laws.{Validating}
 use Rattle.report_reader.proofs.validate.Given as goal

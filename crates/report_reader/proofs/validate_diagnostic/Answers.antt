@@ -1,7 +1,7 @@
 -- `report_reader::validate_diagnostic` meets its contract.
 -- Assumes nothing.
+use Rattle.std.proofs.Common.{ne_eqb}
 use Rattle.std.proofs.lemmas.Result.{err_from_is_err_and}
-use borrow.Author.Tests.{ne_eqb}
 use Rattle.laws.specs.Choice.{when◌then◌else◌}
 use Rattle.octets.proofs.RefusalLaws.{some_number}
 use Rattle.report_reader.specs.Reader.{walked_step, diagnostic_step}

@@ -1,15 +1,11 @@
 -- `reports::put_event` meets its contract: head, time fields and body stand one behind the other.
 -- Assumes nothing.
-use native.Mathlib.Omega.{arith}
-use mathlib.Core.Path.{◌≡◌}
-use Prim.Native.Nat.{◌≤◌}
-use lib.ListN.{length}
+use Rattle.std.proofs.Common.{arith, ◌≡◌, ◌≤◌, length, rules}
 use Rattle.events.specs.Times.{draft_length, published_length}
 use Rattle.events.specs.Log.{body_capacity}
 use Rattle.events.proofs.LoggingLaws.{form-length}
 use Rattle.reports.specs.Reports.{event_element}
 use Rattle.reports.proofs.Laws.{put_short, put_long, event-length, put-event_parts}
-use borrow.Author.Rules.{rules}
 use Rattle.reports.proofs.put_event.Goals as goal
 
 pub returns-then-buf-rest : goal.returns-then-buf-rest

@@ -1,9 +1,6 @@
 -- `reports::put_report` meets its contract: head and rest stand one behind the other.
 -- Assumes nothing.
-use native.Mathlib.Omega.{arith}
-use mathlib.Core.Path.{◌∙◌}
-use Prim.Native.Nat.{◌≤◌}
-use lib.ListN.{length}
+use Rattle.std.proofs.Common.{arith, ◌∙◌, ◌≤◌, length}
 use Rattle.reports.specs.Reports.{report_element}
 use Rattle.reports.proofs.Laws.{put_short, put_long, put_two, element_parts, element-length}
 use Rattle.reports.proofs.put_report.Goals as goal

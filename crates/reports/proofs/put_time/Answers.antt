@@ -1,7 +1,7 @@
 -- `reports::put_time` meets its contract.
 -- Assumes nothing.
+use Rattle.std.proofs.Common.{ne_eqb}
 use Rattle.laws.specs.Choice.{when◌then◌else◌}
-use borrow.Author.Tests.{ne_eqb}
 use Rattle.reports.proofs.put_time.Goals as goal
 
 pub returns-then-form-eq-DRAFT : goal.returns-then-form-eq-DRAFT

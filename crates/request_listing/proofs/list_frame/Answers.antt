@@ -1,7 +1,7 @@
 -- `request_listing::list_frame` meets its contract.
 -- Assumes nothing.
+use Rattle.std.proofs.Common.{rules}
 use Rattle.texts.proofs.PutLaws.{whole}
-use borrow.Author.Rules.{rules}
 use Rattle.request_listing.proofs.list_frame.Goals as goal
 
 pub returns : goal.returns

@@ -1,6 +1,6 @@
 -- `request_listing::put_limit` meets its contract.
 -- Assumes nothing.
-use native.Mathlib.Omega.{arith}
+use Rattle.std.proofs.Common.{arith}
 use Rattle.texts.proofs.PutLaws.{short, at_most}
 use Rattle.request_listing.specs.Listing.{limit_field}
 use Rattle.request_listing.proofs.put_limit.Goals as goal

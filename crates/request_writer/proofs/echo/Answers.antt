@@ -1,9 +1,6 @@
 -- `request_writer::echo` meets its contract: the round trip, for what the code holds.
 -- Assumes nothing.
-use mathlib.Core.Path.{◌≡◌, refl, sym, ap, ◌∙◌}
-use native.Mathlib.Omega.{arith}
-use lib.ListN.{length, replicate}
-use lib.Seq.{length-take-le}
+use Rattle.std.proofs.Common.{◌≡◌, refl, sym, ap, ◌∙◌, arith, length, replicate, length-take-le, rules}
 use Rattle.requests.specs.Elements.{element_capacity}
 use Rattle.laws.proofs.Arrays.{length_mapped}
 use Rattle.request_writer.specs.Writer.{WriteOutcome}
@@ -11,7 +8,6 @@ use Rattle.request_writer.proofs.Shapes.{shaped}
 use Rattle.request_writer.specs.Writer.{written}
 use Rattle.request_writer.proofs.Writing.{written-length}
 use Rattle.request_writer.proofs.RoundTrip.{answer_bounded, echo_read}
-use borrow.Author.Rules.{rules}
 use Rattle.request_writer.proofs.echo.Goals as goal
 
 pub slice_bounds-buf-end : goal.slice_bounds-buf-end

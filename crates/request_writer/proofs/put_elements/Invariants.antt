@@ -1,6 +1,5 @@
 -- `request_writer::put_elements` meets its contract. The invariant, `Laying`: the elements before this one stand at the front, and their tokens are good.
 -- Assumes nothing.
-use Prim.Native.Nat.{◌-◌}
 use Rattle.request_writer.proofs.Writing.{Laying}
 use Rattle.request_writer.proofs.put_elements.Given as goal
 

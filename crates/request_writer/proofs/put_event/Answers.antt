@@ -1,10 +1,6 @@
 -- `request_writer::put_event` meets its contract: the conditions are put first, and the head in front of them.
 -- Assumes nothing.
-use mathlib.Core.Path.{◌≡◌, refl, ap, ◌∙◌}
-use mathlib.Core.List.{List, [], ◌∷◌, ◌++◌}
-use Prim.Native.Nat.{ℕ, ◌+◌, ◌-◌}
-use native.Mathlib.Omega.{arith}
-use lib.ListN.{length}
+use Rattle.std.proofs.Common.{◌≡◌, refl, ap, ◌∙◌, List, [], ◌∷◌, ◌++◌, ℕ, ◌+◌, ◌-◌, arith, length, rules}
 use borrow.Rule.Slice.PartMut.{put_mid}
 use Rattle.octets.specs.declared.numbers.Kind.TheVariants.{Event}
 use Rattle.laws.specs.Buffers.{onto}
@@ -13,7 +9,6 @@ use Rattle.laws.proofs.Arrays.{length_mapped}
 use Rattle.request_writer.specs.Frames.{filter_octets, element_octets}
 use Rattle.request_writer.proofs.Lengths.{filter-length}
 use Rattle.request_writer.proofs.Writing.{event-octets, headed, tail_length}
-use borrow.Author.Rules.{rules}
 use Rattle.request_writer.proofs.put_event.Goals as goal
 
 pub put_filter-n-requires : goal.put_filter-n-requires
@@ -28,13 +23,13 @@ returns c =
     let f = c.put_filter-n in
     let id = c.request_id in
     let n = f.result in
-    let is = f.ensures.value.0 in
+    let is = f.ensures.length.0 in
     let o : List ℕ = filter_octets a.e.ty a.e.filter in
     let h : List ℕ = 78 ∷ (3 + n) ∷ a.e.token ∷ a.e.ty ∷ a.e.limit ∷ [] in
     let all : h ++ o ≡ element_octets Event a.e = event-octets a.e n is in
     let src : id.result ∷ (3 + n) ∷ a.e.token ∷ a.e.ty ∷ a.e.limit ∷ [] ≡ h = rw id.ensures in
     let behind = lent_tail o s f.new.buf 5 (omega (arith, c.requires)) f.ensures.put in
     record {
-      value = (omega (arith, is, ap length all), omega (arith, f.ensures.value.1));
+      length = (omega (arith, is, ap length all), omega (arith, f.ensures.length.1));
       put = copied h (id.result ∷ (3 + n) ∷ a.e.token ∷ a.e.ty ∷ a.e.limit ∷ []) (put_mid 5 (length s - 5) s f.new.buf) c.copy.new.buf src c.copy.ensures.after ∙ ap (onto h) behind ∙ headed h o s 5 refl (omega (arith, c.requires)) ∙ ap (λ (x : List ℕ). onto x s) all;
     }

@@ -1,8 +1,6 @@
 -- `request_writer::put_filter` meets its contract. The invariant, `Putting`: the conditions before this one stand at the front.
 -- Assumes nothing.
-use Prim.Native.Nat.{◌+◌}
-use native.Mathlib.Omega.{arith}
-use lib.ListN.{get_or, drop}
+use Rattle.std.proofs.Common.{◌+◌, arith, get_or, drop}
 use Rattle.laws.specs.Buffers.{pieces}
 use Rattle.laws.proofs.Buffers.{putting_fits, putting_next, putting_done, putting_end}
 use Rattle.laws.proofs.Pieces.{pieces_next, pieces_end}
@@ -25,7 +23,7 @@ loop-id-preserved c = let i = c.loop-id.invariant in
     let f = a.filter in
     let id = c.loop-id.id in
     let next = pieces_next (condition_octets a.ty) f id past_filter (omega (arith, i.0)) in
-    (i.0, rw c.put_condition-at.ensures.value (putting_next i.1 (condition_octets a.ty id (get_or f id past_filter)) (pieces (condition_octets a.ty) (id + 1) (drop (id + 1) f)) next c.put_condition-at.new.buf c.put_condition-at.ensures.put))
+    (i.0, rw c.put_condition-at.ensures.length (putting_next i.1 (condition_octets a.ty id (get_or f id past_filter)) (pieces (condition_octets a.ty) (id + 1) (drop (id + 1) f)) next c.put_condition-at.new.buf c.put_condition-at.ensures.put))
 
 pub returns : goal.returns
 returns c =
@@ -33,6 +31,6 @@ returns c =
     let e = pieces_end (condition_octets c.args.ty) c.args.filter c.loop-id.id (omega (arith, i.0)) in
     let n = putting_end i.1 e in
     record {
-      value = (n, omega (arith, n, filter-length c.args.ty c.args.filter i.0));
+      length = (n, omega (arith, n, filter-length c.args.ty c.args.filter i.0));
       put = putting_done i.1 e;
     }

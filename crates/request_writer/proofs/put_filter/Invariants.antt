@@ -1,8 +1,6 @@
 -- `request_writer::put_filter` meets its contract. The invariant, `Putting`: the conditions before this one stand at the front.
 -- Assumes nothing.
-use Prim.Native.Nat.{◌≤◌, ◌-◌}
-use mathlib.Core.Path.{◌≡◌}
-use lib.ListN.{length, drop}
+use Rattle.std.proofs.Common.{◌≡◌, length, drop}
 use Rattle.laws.specs.Buffers.{pieces}
 use Rattle.laws.proofs.Buffers.{Putting}
 use Rattle.request_writer.specs.Frames.{condition_octets, filter_octets}

@@ -1,15 +1,10 @@
 -- `request_writer::write_request` meets its contract: the elements are laid out in an array of their own, so that a refused call writes none.
 -- Assumes nothing.
-use Prim.Native.Nat.{◌-◌}
-use mathlib.Core.Path.{◌≡◌, refl, sym, ap, ◌∙◌}
-use native.Mathlib.Omega.{arith}
+use Rattle.std.proofs.Common.{◌-◌, refl, sym, ap, ◌∙◌, arith}
 use Rattle.std.proofs.lemmas.Result.{err_from_is_err_and}
 use Rattle.octets.proofs.RefusalLaws.{some_number}
-use lib.ListN.{length}
-use lib.Seq.{length-take-le}
 use Rattle.request_writer.specs.Writer.{frame_answer}
 use Rattle.request_writer.proofs.Writing.{short, no_dialog, answered, unframed, with-elements, without-elements, nothing_written, frame-written, lasts, frame-put}
-use borrow.Author.Rules.{rules}
 use Rattle.request_writer.proofs.write_request.Goals as goal
 
 pub returns-then-buf-lt-REQUEST_BUFFER : goal.returns-then-buf-lt-REQUEST_BUFFER
@@ -38,14 +33,6 @@ overflow_sub-n c = let a = c.args in
     let some = with-elements a.kind a.dialog a.elements a.count a.buf.now _ (sym c.lacks_element.ensures ∙ c.if-lacks_element.false) in
     omega (arith, lasts a.kind a.elements a.count _ _ c.in_ok-length.ensures.answer some refl)
 
-pub slice_bounds-body-end : goal.slice_bounds-body-end
-slice_bounds-body-end c = omega (arith, c.in_ok-length.ensures.bound)
-
-pub slice_bounds-put-end-2 : goal.slice_bounds-put-end-2
-slice_bounds-put-end-2 c =
-    let long : length c.put_elements.new.buf ≡ 264 = search rules in
-    sym (length-take-le _ _ (omega (arith, long, c.in_ok-length.ensures.bound)))
-
 pub returns : goal.returns
 returns c = let a = c.args in
     let is = c.in_ok-length.ensures.answer in
@@ -53,5 +40,5 @@ returns c = let a = c.args in
     let answer = some ∙ ap (frame_answer a.kind a.count) is ∙ answered a.kind a.dialog a.elements a.count a.buf.now c.if-buf-lt-REQUEST_BUFFER.false c.if-dialog-eq0.false in
     let l = lasts a.kind a.elements a.count _ _ is some refl in
     frame-written a.kind a.dialog a.elements a.count a.buf.now _ answer refl _
-    (frame-put a.kind a.dialog a.elements a.count (c.in_ok-length.length - 3) a.buf.now c.put_elements.new.buf _ c.if-buf-lt-REQUEST_BUFFER.false (omega (arith, l)) (omega (arith, c.in_ok-length.ensures.bound))
+    (frame-put a.kind a.dialog a.elements a.count (c.in_ok-length.length - 3) a.buf.now c.put_elements.new.buf _ c.if-buf-lt-REQUEST_BUFFER.false (omega (arith, l)) (omega (arith, c.in_ok-length.ensures.fits))
     (c.in_ok-length.ensures.put refl) _ _ _ _ (rw c.request_action.ensures at c.put.ensures) c.put-2.ensures)

@@ -1,8 +1,7 @@
 -- `requests::check_header` meets its contract: each return rewrites with the tests that led there.
 -- Assumes nothing.
-use Rattle.std.proofs.Common.{sym, ◌∙◌}
+use Rattle.std.proofs.Common.{sym, ◌∙◌, eq-eqb, ne_eqb}
 use Rattle.std.proofs.lemmas.Result.{err_from_is_err_and}
-use borrow.Author.Tests.{eq-eqb, ne_eqb}
 use Rattle.laws.specs.Choice.{when◌then◌else◌}
 use Rattle.octets.proofs.RefusalLaws.{some_number}
 use Rattle.requests.specs.Requests.{header_cause}

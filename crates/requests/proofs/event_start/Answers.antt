@@ -1,6 +1,6 @@
 -- `requests::event_start` meets its contract.
 -- Assumes nothing.
-use borrow.Author.Tests.{lt-ltb, le-ltb}
+use Rattle.std.proofs.Common.{lt-ltb, le-ltb}
 use Rattle.laws.specs.Choice.{when◌then◌else◌}
 use Rattle.requests.specs.Internal.{subelements_start}
 use Rattle.requests.proofs.event_start.Goals as goal

@@ -1,7 +1,6 @@
 -- `requests::read_elements` meets its contract. The invariant, `Walking`: what is left of the walk gives what the whole walk gives.
 -- Assumes nothing.
-use Prim.Native.Nat.{◌-◌}
-use lib.ListN.{length}
+use Rattle.std.proofs.Common.{◌-◌, length}
 use Rattle.requests.proofs.Laws.{Walking}
 use Rattle.requests.proofs.read_elements.Given as goal
 

@@ -1,7 +1,6 @@
 -- `requests::subelements_of` meets its contract: an element is at most 257 octets long, so it has fewer than 256 subelements.
 -- Assumes nothing.
-use mathlib.Core.Path.{ap, ap₂, ◌∙◌}
-use Prim.Native.Nat.{ℕ}
+use Rattle.std.proofs.Common.{ap, ap₂, ◌∙◌, ℕ}
 use Rattle.subelements.specs.Subelements.{walk}
 use Rattle.requests.specs.Elements.{table_of}
 use Rattle.requests.proofs.Laws.{subelements-from, subelements_few}

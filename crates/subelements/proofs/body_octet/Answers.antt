@@ -1,13 +1,9 @@
 -- `subelements::body_octet` meets its contract: past the end, the list's default is 0.
 -- Assumes nothing.
-use mathlib.Core.Path.{sym}
-use Prim.Native.Nat.{◌+◌}
-use native.Mathlib.Omega.{arith}
-use lib.ListN.{get_or-eq_default}
-use borrow.Author.Tests.{lt-ltb, le-ltb}
+use Rattle.std.proofs.Common.{sym, ◌+◌, arith, lt-ltb, le-ltb, rules}
+use Rattle.std.proofs.Math.ListN.{get_or-eq_default}
 use Rattle.laws.specs.Choice.{when◌then◌else◌}
 use Rattle.subelements.specs.Subelements.{body_octet}
-use borrow.Author.Rules.{rules}
 use Rattle.subelements.proofs.body_octet.Goals as goal
 
 pub returns-then-n-k : goal.returns-then-n-k

@@ -1,6 +1,6 @@
 -- `subelements::length_of` meets its contract.
 -- Assumes nothing.
-use borrow.Author.Tests.{eq-eqb, ne_eqb}
+use Rattle.std.proofs.Common.{eq-eqb, ne_eqb}
 use Rattle.laws.specs.Choice.{when◌then◌else◌}
 use Rattle.subelements.specs.Subelements.{length_of}
 use Rattle.subelements.proofs.length_of.Goals as goal

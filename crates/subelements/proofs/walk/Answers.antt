@@ -1,7 +1,6 @@
 -- `subelements::walk` meets its contract. The invariant, `Walking`: what is left of the walk gives what the whole walk gives.
 -- Assumes nothing.
-use mathlib.Core.Path.{refl}
-use native.Mathlib.Omega.{arith}
+use Rattle.std.proofs.Common.{refl, arith}
 use Rattle.octets.proofs.ElementLaws.{at_place, no_place}
 use Rattle.subelements.proofs.Laws.{walking_start, walking_end, moves, refused_edge, passed_over, known, within, refused-length, refused_repeat, held}
 use Rattle.subelements.proofs.walk.Goals as goal

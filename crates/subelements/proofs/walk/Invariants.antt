@@ -1,6 +1,6 @@
 -- `subelements::walk` meets its contract. The invariant, `Walking`: what is left of the walk gives what the whole walk gives.
 -- Assumes nothing.
-use Prim.Native.Nat.{◌-◌}
+use Rattle.std.proofs.Common.{◌-◌}
 use Rattle.subelements.specs.Subelements.{accepted_walk}
 use Rattle.subelements.proofs.Laws.{Walking}
 use Rattle.subelements.proofs.walk.Given as goal

@@ -1,6 +1,6 @@
 -- `texts::digit` meets its contract.
 -- Assumes nothing.
-use borrow.Author.Tests.{lt-ltb, le-ltb}
+use Rattle.std.proofs.Common.{lt-ltb, le-ltb}
 use Rattle.laws.specs.Choice.{when◌then◌else◌}
 use Rattle.texts.specs.Text.{digit}
 use Rattle.texts.proofs.digit.Goals as goal

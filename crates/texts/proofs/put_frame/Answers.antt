@@ -1,8 +1,8 @@
 -- `texts::put_frame` meets its contract.
 -- Assumes nothing.
+use Rattle.std.proofs.Common.{arith}
 use Rattle.texts.specs.Text.{frame_line}
 use Rattle.texts.proofs.PutLaws.{one, short, at_most, both}
-use native.Mathlib.Omega.{arith}
 use Rattle.texts.proofs.put_frame.Goals as goal
 
 pub returns : goal.returns

@@ -1,8 +1,7 @@
 -- `texts::put_hex` meets its contract.
 -- Assumes nothing.
+use Rattle.std.proofs.Common.{arith, length-append}
 use Rattle.texts.specs.Text.{hex, hexed}
-use native.Mathlib.Omega.{arith}
-use lib.ListN.{length-append}
 use Rattle.texts.proofs.put_hex.Goals as goal
 
 pub returns : goal.returns

@@ -1,7 +1,6 @@
 -- `texts::put_hexes` meets its contract. The invariant, `Lining`: the octets before this one are written.
 -- Assumes nothing.
-use Prim.Native.Nat.{ℕ, ◌+◌}
-use lib.ListN.{length}
+use Rattle.std.proofs.Common.{ℕ, ◌+◌, length}
 use Rattle.texts.specs.Text.{hexed}
 use Rattle.texts.proofs.PutLaws.{Lining}
 use Rattle.texts.proofs.put_hexes.Given as goal

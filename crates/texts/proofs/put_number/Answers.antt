@@ -1,11 +1,6 @@
 -- `texts::put_number` meets its contract. The invariant, `Spelling`: what is spelt from here on, in front of the digits that are there,
 -- is the number. Assumes nothing.
-use Prim.Native.Nat.{ℕ, ◌-◌}
-use mathlib.Core.Path.{◌≡◌, refl, sym, ◌∙◌}
-use mathlib.Core.List.{List}
-use native.Mathlib.Omega.{arith}
-use lib.ListN.{length, drop, set, length-set, length-drop}
-use lib.Seq.{take_all}
+use Rattle.std.proofs.Common.{ℕ, ◌-◌, ◌≡◌, refl, sym, ◌∙◌, List, arith, length, drop, set, length-set, length-drop, take_all}
 use Rattle.texts.specs.Text.{decimal}
 use Rattle.texts.proofs.NumberLaws.{Spelling, spelling_last, spelling_next, spelling_all}
 use Rattle.texts.proofs.put_number.Goals as goal

@@ -1,6 +1,6 @@
 -- `texts::put_number` meets its contract. The invariant, `Spelling`: what is spelt from here on, in front of the digits that are there,
 -- is the number. Assumes nothing.
-use mathlib.Core.Path.{◌≡◌}
+use Rattle.std.proofs.Common.{◌≡◌}
 use Rattle.texts.specs.Text.{decimal}
 use Rattle.texts.proofs.NumberLaws.{Spelling}
 use Rattle.texts.proofs.put_number.Given as goal

@@ -1,8 +1,6 @@
 -- `texts::put_two` meets its contract.
 -- Assumes nothing.
-use mathlib.Core.Path.{sym}
-use native.Mathlib.Omega.{arith}
-use lib.ListN.{length-append}
+use Rattle.std.proofs.Common.{sym, arith, length-append}
 use Rattle.laws.proofs.Buffers.{put_at-short}
 use Rattle.texts.proofs.PutLaws.{put_two}
 use Rattle.texts.proofs.put_two.Goals as goal

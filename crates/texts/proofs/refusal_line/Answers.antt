@@ -1,8 +1,8 @@
 -- `texts::refusal_line` meets its contract.
 -- Assumes nothing.
+use Rattle.std.proofs.Common.{rules}
 use Rattle.texts.specs.Text.{refusal_line}
 use Rattle.texts.proofs.PutLaws.{one, short, both, whole}
-use borrow.Author.Rules.{rules}
 use Rattle.texts.proofs.refusal_line.Goals as goal
 
 pub returns : goal.returns

@@ -1,9 +1,6 @@
 -- `octets::put` meets its contract: all that lies behind the first octets is lent to the copy.
 -- Assumes nothing.
-use Prim.Native.Nat.{◌+◌, ◌-◌}
-use mathlib.Core.Path.{refl, sym, ap, ◌∙◌}
-use native.Mathlib.Omega.{arith}
-use lib.ListN.{length, take, drop}
+use Rattle.std.proofs.Common.{◌+◌, ◌-◌, refl, sym, ap, ◌∙◌, arith, length, take, drop}
 use Rattle.laws.specs.Buffers.{wrote}
 use Rattle.laws.proofs.Buffers.{put_at-fits, put_at-short, copied, lent_tail}
 use Rattle.octets.proofs.buffers.put.Goals as goal

@@ -1,8 +1,6 @@
 -- `octets::piece_end` meets its contract: its differences with the end are the definition's sums with the position.
 -- Assumes nothing.
-use Prim.Native.Nat.{◌+◌}
-use native.Mathlib.Omega.{arith}
-use borrow.Author.Tests.{lt-ltb, le-ltb}
+use Rattle.std.proofs.Common.{◌+◌, arith, lt-ltb, le-ltb}
 use Rattle.laws.specs.Choice.{when◌then◌else◌}
 use Rattle.octets.specs.Elements.{piece_end}
 use Rattle.octets.proofs.ElementLaws.{placed_some}

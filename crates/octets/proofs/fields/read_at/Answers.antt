@@ -1,9 +1,6 @@
 -- `octets::read_at` meets its contract: a position past the end is as good as the end, and octets that do not pass it are a part.
 -- Assumes nothing.
-use Prim.Native.Nat.{◌+◌, ◌-◌}
-use mathlib.Core.Path.{◌∙◌}
-use native.Mathlib.Omega.{arith}
-use lib.ListN.{length}
+use Rattle.std.proofs.Common.{◌+◌, ◌-◌, ◌∙◌, arith, length}
 use Rattle.octets.proofs.PlaceLaws.{octets-from, octets_copied}
 use Rattle.octets.proofs.fields.read_at.Goals as goal
 

@@ -1,6 +1,6 @@
 -- `octets::check_head` meets its contract: each return rewrites with the tests that led there.
 -- Assumes nothing.
-use borrow.Author.Tests.{lt-ltb, le-ltb, eq-eqb, ne_eqb}
+use Rattle.std.proofs.Common.{lt-ltb, le-ltb, eq-eqb, ne_eqb}
 use Rattle.laws.specs.Choice.{when◌then◌else◌}
 use Rattle.octets.specs.Frames.{frame_cause}
 use Rattle.octets.proofs.frames.check_head.Goals as goal

@@ -1,6 +1,6 @@
 -- `octets::frame_kind` meets its contract.
 -- Assumes nothing.
-use borrow.Author.Tests.{eq-eqb, ne_eqb}
+use Rattle.std.proofs.Common.{eq-eqb, ne_eqb}
 use Rattle.laws.specs.Choice.{when◌then◌else◌}
 use Rattle.octets.specs.Frames.{frame_kind}
 use Rattle.octets.proofs.frames.frame_kind.Goals as goal

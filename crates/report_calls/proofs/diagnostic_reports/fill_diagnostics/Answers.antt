@@ -1,8 +1,7 @@
 -- `report_calls::diagnostic_reports::fill_diagnostics` meets its contract. The invariant, `Filling`: what is written, and what filling the rest gives,
 -- are what filling the whole gives.
 -- Assumes nothing.
-use native.Mathlib.Omega.{arith}
-use borrow.Author.Rules.{rules}
+use Rattle.std.proofs.Common.{arith, rules}
 use Rattle.laws.proofs.Arrays.{length_mapped}
 use Rattle.report_calls.proofs.FillLaws.{filling_start, filling_done, filling_full, filling_within, filling_next}
 use Rattle.report_calls.proofs.EventLaws.{left_none}

@@ -1,6 +1,6 @@
 -- `requesters::give_report` meets its contract: refused, or by the kind of the report.
 -- Assumes nothing.
-use borrow.Author.Tests.{lt-ltb, le-ltb}
+use Rattle.std.proofs.Common.{lt-ltb, le-ltb}
 use Rattle.laws.specs.Choice.{when◌then◌else◌}
 use Rattle.model.specs.Stations.{give_kind, give_report}
 use Rattle.requesters.specs.Views.{view_answer}

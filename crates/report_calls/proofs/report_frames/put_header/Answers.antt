@@ -1,8 +1,6 @@
 -- `report_calls::report_frames::put_header` meets its contract.
 -- Assumes nothing.
-use mathlib.Core.Path.{ap, ◌∙◌}
-use mathlib.Core.List.{[], ◌∷◌}
-use native.Mathlib.Omega.{arith}
+use Rattle.std.proofs.Common.{ap, ◌∙◌, [], ◌∷◌, arith}
 use Rattle.laws.specs.Buffers.{WrittenBuffer}
 use Rattle.laws.proofs.Buffers.{put_at-fits}
 use Rattle.octets.specs.Numbers.{category, report_action}

@@ -1,8 +1,6 @@
 -- `report_reader::decoders::copy_at` meets its contract: octets that do not pass the end are a part.
 -- Assumes nothing.
-use Prim.Native.Nat.{◌+◌, ◌-◌}
-use native.Mathlib.Omega.{arith}
-use lib.ListN.{length}
+use Rattle.std.proofs.Common.{◌+◌, ◌-◌, arith, length}
 use Rattle.octets.proofs.PlaceLaws.{octets_copied}
 use Rattle.report_reader.proofs.decoders.copy_at.Goals as goal
 

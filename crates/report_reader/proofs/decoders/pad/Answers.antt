@@ -1,6 +1,6 @@
 -- `report_reader::decoders::pad` meets its contract.
 -- Assumes nothing.
-use mathlib.Core.Path.{refl}
+use Rattle.std.proofs.Common.{refl}
 use Rattle.report_reader.proofs.DecoderLaws.{first-padded}
 use Rattle.report_reader.proofs.decoders.pad.Goals as goal
 

@@ -1,10 +1,8 @@
 -- `report_reader::decoders::peer_link_in` meets its contract: its body is read of as many octets as it has.
 -- Assumes nothing.
-use mathlib.Core.Path.{◌≡◌, refl, ap, ◌∙◌}
-use lib.ListN.{length}
+use Rattle.std.proofs.Common.{◌≡◌, refl, ap, ◌∙◌, length, rules}
 use Rattle.octets.specs.Fields.{octets_at}
 use Rattle.report_reader.proofs.DecoderLaws.{peer_link-read}
-use borrow.Author.Rules.{rules}
 use Rattle.report_reader.proofs.decoders.peer_link_in.Goals as goal
 
 pub pad-requires : goal.pad-requires

@@ -1,11 +1,8 @@
 -- `report_reader::decoders::rsn_places` meets its contract: as many octets are copied as there are places.
 -- Assumes nothing.
-use mathlib.Core.Path.{◌≡◌, refl, ap, ◌∙◌}
-use native.Mathlib.Omega.{arith}
-use lib.ListN.{length}
+use Rattle.std.proofs.Common.{◌≡◌, refl, ap, ◌∙◌, arith, length, rules}
 use Rattle.octets.specs.Fields.{octets_at}
 use Rattle.report_reader.proofs.DecoderLaws.{first-octets, first-length}
-use borrow.Author.Rules.{rules}
 use Rattle.report_reader.proofs.decoders.rsn_places.Goals as goal
 
 pub pad-requires : goal.pad-requires

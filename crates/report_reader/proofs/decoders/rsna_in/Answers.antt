@@ -1,11 +1,9 @@
 -- `report_reader::decoders::rsna_in` meets its contract: its fields up to the RSN element are read of as many octets as they have at most.
 -- Assumes nothing.
-use mathlib.Core.Path.{◌≡◌, refl, ap, ◌∙◌}
-use lib.ListN.{length}
+use Rattle.std.proofs.Common.{◌≡◌, refl, ap, ◌∙◌, length, rules}
 use Rattle.octets.specs.Fields.{octets_at}
 use Rattle.events.specs.RsnaEvents.{rsn_element_of}
 use Rattle.report_reader.proofs.DecoderLaws.{rsna-read}
-use borrow.Author.Rules.{rules}
 use Rattle.report_reader.proofs.decoders.rsna_in.Goals as goal
 
 pub pad-requires : goal.pad-requires

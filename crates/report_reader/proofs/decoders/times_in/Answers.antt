@@ -1,15 +1,11 @@
 -- `report_reader::decoders::times_in` meets its contract: they are read of as many octets as they have.
 -- Assumes nothing.
-use mathlib.Core.Path.{◌≡◌, refl, ap, ◌∙◌}
-use native.Mathlib.Omega.{arith}
-use lib.ListN.{length}
-use borrow.Author.Tests.{ne_eqb}
+use Rattle.std.proofs.Common.{◌≡◌, refl, ap, ◌∙◌, arith, length, ne_eqb, rules}
 use Rattle.laws.specs.Choice.{when◌then◌else◌}
 use Rattle.octets.specs.Fields.{octets_at}
 use Rattle.octets.specs.Times.{time_at}
 use Rattle.report_reader.specs.Decoders.{draft_times, published_times, times_in}
 use Rattle.report_reader.proofs.DecoderLaws.{first-octets, first-length}
-use borrow.Author.Rules.{rules}
 use Rattle.report_reader.proofs.decoders.times_in.Goals as goal
 
 pub pad-requires : goal.pad-requires

@@ -1,8 +1,6 @@
 -- `report_reader::decoders::whole_of` meets its contract.
 -- Assumes nothing.
-use mathlib.Core.Path.{sym}
-use native.Mathlib.Nat.{zero-add}
-use lib.ListN.{length}
+use Rattle.std.proofs.Common.{sym, zero-add, length}
 use Rattle.octets.proofs.PlaceLaws.{octets_part}
 use Rattle.report_reader.proofs.decoders.whole_of.Goals as goal
 

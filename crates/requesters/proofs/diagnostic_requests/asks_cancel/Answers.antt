@@ -1,10 +1,6 @@
 -- `requesters::diagnostic_requests::asks_cancel` meets its contract.
 -- Assumes nothing.
-use mathlib.Core.Path.{◌≡◌, ◌∙◌, ap}
-use mathlib.Core.List.{List, map}
-use lib.ListN.{length, take}
-use borrow.Author.Rules.{rules}
-use borrow.Author.Tests.{tests}
+use Rattle.std.proofs.Common.{◌≡◌, ◌∙◌, ap, List, map, length, take, rules, tests}
 use Rattle.std.proofs.lemmas.Iterator.{YieldsList-from_slice}
 use Rattle.std.proofs.lemmas.Iterator.Search.{any_from_yields_List}
 use Rattle.laws.proofs.Arrays.{length_mapped, take_within}

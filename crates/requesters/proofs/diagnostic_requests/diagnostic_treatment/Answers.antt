@@ -1,7 +1,6 @@
 -- `requesters::diagnostic_requests::diagnostic_treatment` meets its contract.
 -- Assumes nothing.
-use native.Mathlib.Omega.{arith}
-use borrow.Author.Tests.{ne_eqb}
+use Rattle.std.proofs.Common.{arith, ne_eqb}
 use Rattle.laws.specs.Choice.{when◌then◌else◌}
 use Rattle.model.specs.Diagnostics.{diagnostic_treatment}
 use Rattle.requesters.proofs.diagnostic_requests.diagnostic_treatment.Goals as goal

@@ -1,14 +1,9 @@
 -- `requesters::diagnostic_requests::kept` meets its contract. The invariant: what is kept, with those on time of the places left, is what is on time.
 -- Assumes nothing.
-use Prim.Native.Nat.{◌+◌, ◌≤◌}
-use mathlib.Core.Path.{◌≡◌, sym, ◌∙◌, ap}
-use mathlib.Core.List.{List, [], ◌∷◌, ◌++◌}
+use Rattle.std.proofs.Common.{◌+◌, ◌≤◌, ◌≡◌, sym, ◌∙◌, ap, List, [], ◌∷◌, ◌++◌, arith, length, get_or, take, drop, length-set, get_or-take}
 use Rattle.units.specs.Time.{elapsed_since}
 use Rattle.requests.specs.Elements.{element_capacity}
 use Rattle.model.specs.declared.Diagnostic.{Diagnostic}
-use native.Mathlib.Omega.{arith}
-use lib.ListN.{length, get_or, take, drop, length-set}
-use lib.Seq.{get_or-take}
 use Rattle.model.specs.Diagnostics.{on_time}
 use Rattle.laws.proofs.Arrays.{take_within, length-within}
 use Rattle.requesters.proofs.DiagnosticLaws.{on_time_next, on_time-kept, on_time-late, on_time_end, past_diagnostics}

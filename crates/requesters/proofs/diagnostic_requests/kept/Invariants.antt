@@ -1,11 +1,8 @@
 -- `requesters::diagnostic_requests::kept` meets its contract. The invariant: what is kept, with those on time of the places left, is what is on time.
 -- Assumes nothing.
-use Prim.Native.Nat.{◌≤◌}
-use mathlib.Core.Path.{◌≡◌}
-use mathlib.Core.List.{◌++◌}
+use Rattle.std.proofs.Common.{◌≤◌, ◌≡◌, ◌++◌, length, take, drop}
 use Rattle.units.specs.Time.{elapsed_since}
 use Rattle.requests.specs.Elements.{element_capacity}
-use lib.ListN.{length, take, drop}
 use Rattle.model.specs.Diagnostics.{on_time}
 use Rattle.requesters.proofs.diagnostic_requests.kept.Given as goal
 

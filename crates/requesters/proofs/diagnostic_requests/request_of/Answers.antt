@@ -1,14 +1,10 @@
 -- `requesters::diagnostic_requests::request_of` meets its contract.
 -- Assumes nothing.
-use mathlib.Core.Path.{◌≡◌}
-use native.Mathlib.Omega.{arith}
-use lib.ListN.{length, take}
-use lib.Seq.{length-take-le}
+use Rattle.std.proofs.Common.{◌≡◌, arith, length, take, length-take-le, rules}
 use Rattle.requests.specs.Elements.{element_capacity}
 use Rattle.laws.proofs.Arrays.{length_mapped}
 use Rattle.requesters.specs.Views.{view_diagnostics}
 use Rattle.requesters.proofs.DiagnosticLaws.{unless-over}
-use borrow.Author.Rules.{rules}
 use Rattle.requesters.proofs.diagnostic_requests.request_of.Goals as goal
 
 pub returns : goal.returns

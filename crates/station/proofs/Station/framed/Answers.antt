@@ -1,7 +1,6 @@
 -- `station::Station::framed` meets its contract.
 -- Assumes nothing.
-use mathlib.Core.Path.{sym, ap, ◌∙◌}
-use mathlib.Core.List.{[]}
+use Rattle.std.proofs.Common.{sym, ap, ◌∙◌, []}
 use Rattle.model.specs.Stations.{frame_call, act, reading_of, step}
 use Rattle.station.specs.declared.Station.{Station}
 use Rattle.station.specs.Views.{view_outcome, changed_outcome}

@@ -1,7 +1,6 @@
 -- `station::Station::setup` meets its contract.
 -- Assumes nothing.
-use mathlib.Core.Path.{sym, ap, ◌∙◌}
-use mathlib.Core.List.{[]}
+use Rattle.std.proofs.Common.{sym, ap, ◌∙◌, []}
 use Rattle.octets.specs.Refusals.{bad_requester_list, bad_identity}
 use Rattle.identities.proofs.Laws.{identity_most}
 use Rattle.model.specs.Model.{Station, accepted}

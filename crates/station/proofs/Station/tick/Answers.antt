@@ -1,7 +1,6 @@
 -- `station::Station::tick` meets its contract.
 -- Assumes nothing.
-use mathlib.Core.Path.{ap, ◌∙◌}
-use mathlib.Core.List.{[]}
+use Rattle.std.proofs.Common.{ap, ◌∙◌, []}
 use Rattle.model.specs.Model.{Station, accepted}
 use Rattle.model.specs.Stations.{result, act, reading_of, step}
 use Rattle.station.proofs.StationLaws.{accepted-view}

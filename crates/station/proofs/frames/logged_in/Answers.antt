@@ -1,11 +1,9 @@
 -- `station::frames::logged_in` meets its contract.
 -- Assumes nothing.
-use mathlib.Core.Path.{◌≡◌, sym, ◌∙◌}
+use Rattle.std.proofs.Common.{◌≡◌, sym, ◌∙◌, length, rules}
 use Rattle.events.specs.Log.{log_capacity}
 use Rattle.laws.proofs.Arrays.{length_mapped}
-use lib.ListN.{length}
 use Rattle.events.proofs.LogLaws.{length-logged}
-use borrow.Author.Rules.{rules}
 use Rattle.station.proofs.frames.logged_in.Goals as goal
 
 pub returns : goal.returns

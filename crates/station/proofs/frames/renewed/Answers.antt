@@ -1,6 +1,6 @@
 -- `station::frames::renewed` meets its contract: each request is replaced where the frame renews it.
 -- Assumes nothing.
-use Rattle.std.proofs.Common.{◌≡◌, Bool, true, List, length, ap, ◌∙◌}
+use Rattle.std.proofs.Common.{◌≡◌, true, length, ap, ◌∙◌}
 use Rattle.std.proofs.Math.Option.{some}
 use Rattle.laws.specs.Choice.{when◌then◌else◌}
 use Rattle.model.specs.Events.{open_events}

@@ -1,8 +1,7 @@
 -- `station::frames::take_request` meets its contract: by what is admitted of the frame.
 -- Assumes nothing.
-use Rattle.std.proofs.Common.{◌≡◌, refl, sym, ap, ◌∙◌, Bool, ltb, length, get_or}
-use lib.Seq.{set-get_or}
-use borrow.Author.Tests.{ne_eqb}
+use Rattle.std.proofs.Math.Seq.{set-get_or}
+use Rattle.std.proofs.Common.{◌≡◌, refl, sym, ap, ◌∙◌, Bool, ltb, length, get_or, ne_eqb, rules}
 use Rattle.laws.specs.Choice.{when◌then◌else◌}
 use Rattle.laws.proofs.Arrays.{length_mapped}
 use Rattle.octets.specs.Refusals.{no_refusal, refusal_of}
@@ -16,7 +15,6 @@ use Rattle.station.specs.Internal.{answer_to}
 use Rattle.station.specs.Views.{view_timer, view, view_outcome}
 use Rattle.station.proofs.RequesterLaws.{past_requesters}
 use Rattle.station.proofs.CallLaws.{kept, taken, admitted-refusal, admitted-same, frame-taken}
-use borrow.Author.Rules.{rules}
 use Rattle.station.proofs.frames.take_request.Goals as goal
 
 pub returns-in-Ok : goal.returns-in-Ok

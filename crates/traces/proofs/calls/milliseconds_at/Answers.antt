@@ -1,7 +1,7 @@
 -- `traces::calls::milliseconds_at` meets its contract: past the end every octet is 0.
 -- Assumes nothing.
+use Rattle.std.proofs.Math.ListN.{get_or-eq_default}
 use Rattle.std.proofs.Common.{◌+◌, arith}
-use lib.ListN.{get_or-eq_default}
 use Rattle.traces.specs.Records.{milliseconds_at}
 use Rattle.traces.proofs.calls.milliseconds_at.Goals as goal
 

@@ -1,6 +1,6 @@
 -- `Reply::from` of a writer's answer meets its contract.
 -- Assumes nothing.
-use borrow.Author.Tests.{ne_eqb}
+use Rattle.std.proofs.Common.{ne_eqb}
 use Rattle.laws.specs.Choice.{when◌then◌else◌}
 use Rattle.octets.proofs.RefusalLaws.{some_number}
 use Rattle.requesters.specs.Views.{view_answer}
