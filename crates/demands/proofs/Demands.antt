@@ -2,7 +2,6 @@
 -- Assumes nothing.
 use Rattle.std.proofs.Common.{ℕ, ◌≡◌, refl, sym, ap, ap₂, ◌∙◌, List, [], ◌∷◌, map}
 use Rattle.std.proofs.Math.ListN.{length-map}
-use mathlib.Core.List.{flatten}
 use Rattle.laws.specs.Members.{Among, first, later, All, nil, also}
 use Rattle.laws.proofs.Members.{among_none}
 use Rattle.octets.specs.declared.numbers.Kind.{Kind}
@@ -158,7 +157,7 @@ time-is_true i l o ms g s c t ts apart readings =
 -- ---- document 02 (d)
 
 chain_given : (s : Address) {g h : Station} {ms : List Made} → Chain g ms h → given_to s ms ≡ events_given elapsed_clock standard s (view g) (map call_of ms)
-unfolding flatten events_given reply view_outcome
+unfolding events_given reply view_outcome
 chain_given s none_made = refl
 chain_given s (made {g = g} {m = m} {ms = ms} a c) =
     let here : answered m ≡ reply elapsed_clock standard (view g) m.call = rw (answer-is a, buffer-is a) in

@@ -1,8 +1,7 @@
 -- The three demands and document 02 (c), (d), (e), (g) and (j), said of the code: for every chain of stations and answers in which each is what its method's contract allows of the
 -- one before, the first from setup. Their proofs are in proofs/Demands.antt.
 -- Assumes nothing.
-use Rattle.std.specs.Prelude.{ℕ, ◌+◌, ◌-◌, ◌%◌, ◌<◌, min, ◌≡◌, false, length, take, List, [], ◌∷◌, map}
-use mathlib.Core.List.{flatten}
+use Rattle.std.specs.Prelude.{ℕ, ◌+◌, ◌-◌, ◌%◌, ◌<◌, min, ◌≡◌, false, length, take, List, [], ◌∷◌, map, flat_map}
 use Rattle.std.proofs.Math.Option.{Option}
 use Rattle.laws.specs.Members.{All}
 use Rattle.units.specs.Time.{turn, elapsed_top, elapsed_since}
@@ -113,7 +112,7 @@ TimeIsTrue =
 
 -- what the report calls of s for events gave, one frame behind the other
 abbrev pub given_to : Address → List Made → List ℕ
-given_to s ms = flatten (map (λ m. events_of s m.call (answered m)) ms)
+given_to s ms = flat_map (λ m. events_of s m.call (answered m)) ms
 
 -- "a limit of 3 now gives the latest three that match, or all if fewer": behind a frame call m that opens an event request
 abbrev pub GivesNewestFirst : Type 0

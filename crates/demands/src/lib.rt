@@ -1,7 +1,8 @@
 // The three demands, stated in specs/ and proved in proofs/: of the model, and of the code for every
 // chain of calls that the station's contracts allow. The functions here are the links of such a
-// chain: each makes one call, and its contract is the chain's. One a method: each holds its own method's
-// contract against the chain, which a function over a closure would not.
+// chain: each makes one call, and its contract is the chain's. One a method, also where two are of one shape
+// (the events' loggings, a move and a change): each holds its own method's contract against the chain, which a
+// function over a closure would not, and a trait over the events would take an impl for each and a function.
 #![tactic(auto)]
 
 ghost use Rattle.std.specs.Prelude.{[]};

@@ -3,9 +3,9 @@
 // replays.
 #![tactic(auto)]
 
-use replays::{LONGEST, put_explain};
+use replays::{LONGEST, explain_line};
 use stdio::{print, read_full};
-use traces::{BUFFER, LINE};
+use traces::BUFFER;
 
 // The record's number, its longest fields, and one octet more than the longest trace has.
 const INPUT: usize = 1 + (2 + BUFFER + 4) + LONGEST + 1;
@@ -13,5 +13,5 @@ const INPUT: usize = 1 + (2 + BUFFER + 4) + LONGEST + 1;
 fn main(rt: HostRuntime) {
     let mut input = [18u8; INPUT];
     let n = read_full(&rt, &mut input[1..]);
-    print(&rt, [0u8; LINE], |line| put_explain(line, &input[..1 + n]));
+    print(&rt, explain_line(&input[..1 + n]));
 }

@@ -2,8 +2,7 @@
 -- Assumes nothing.
 use Rattle.std.specs.Prelude.{ℕ, List, map, Bool, true, false, not, eqb}
 use Rattle.laws.specs.Choice.{when◌then◌else◌}
-use Rattle.octets.specs.declared.numbers.Kind.{Kind}
-use Rattle.octets.specs.declared.numbers.Kind.TheVariants.{Event, Diagnostic}
+use Rattle.octets.specs.Numbers.{number_of}
 use Rattle.model.specs.Model.{Station, Answer, accepted, nothing, of_length, turned_away, Result}
 use Rattle.station.specs.Views.{view}
 use Rattle.station.specs.declared.Station.{Station as LibraryStation}
@@ -19,12 +18,6 @@ use Rattle.firmware.specs.declared.RequestElement.{RequestElement}
 use Rattle.firmware.specs.declared.Report.{Report}
 use Rattle.firmware.specs.declared.ReportElement.{ReportElement}
 use Rattle.firmware.specs.declared.Step.{Step}
-
--- ---- kinds: 0 event, any other diagnostic
-
-abbrev pub number_of : Kind → ℕ
-number_of Event = 0
-number_of Diagnostic = 1
 
 -- ---- flags: any number but 0 is true; a flag that is given is 0 or 1
 

@@ -1,5 +1,5 @@
 // Setup, and the calls on a station, which they change in place: each is the station's method on what stands
-// there.
+// there. A function for each name of C, with the parameters that C hands in, as they come.
 ghost use Rattle.std.specs.Prelude.{◌≡◌, List, [], ℕ};
 ghost use Rattle.events.specs.Loggings.{transition, rsna, peer_link};
 ghost use Rattle.model.specs.Clocks.{elapsed_clock};
@@ -11,7 +11,7 @@ ghost use Rattle.firmware.specs.Numbers.{numbered, viewed, left_with};
 
 use crate::{Outcome, Reply};
 use events::{PeerLink, RsnaEvent, Transition};
-use octets::kind_of;
+use octets::Kind;
 use station::{Changed, Station};
 use units::Milliseconds;
 
@@ -113,7 +113,7 @@ pub extern "C" fn dultxibe_report(
 ) -> Reply
     ensures { left_with g.new result buf.new ≡ numbered (step elapsed_clock standard (view g.old) (report reading requester.now (kind_of kind) buf.old)) }
 {
-    let after = (*g).reported(Milliseconds(reading), *requester, kind_of(kind), buf);
+    let after = (*g).reported(Milliseconds(reading), *requester, Kind::from(kind), buf);
     left_changed(g, after)
 }
 

@@ -4,26 +4,16 @@ ghost use Rattle.octets.specs.Numbers.{kind_of};
 ghost use Rattle.request_writer.specs.Writer.{write_request};
 ghost use Rattle.report_reader.specs.Decoders.{transition_in, rsna_in, peer_link_in};
 ghost use Rattle.report_reader.specs.Reader.{step_given, step_read, cursor_step, report_read, read_report};
-ghost use Rattle.firmware.specs.Numbers.{number_of, element_from, write, numbered_write, numbered_report, numbered_step};
+ghost use Rattle.firmware.specs.Numbers.{element_from, write, numbered_write, numbered_report, numbered_step};
 
 use crate::elements::elements_of;
 use crate::{Reply, Report, ReportElement, Request, Step};
-use octets::{Kind, Refusal, kind_of};
+use octets::{Kind, Refusal};
 use report_reader::{
     Cursor, PeerLinkReport, RsnaReport, TransitionReport, peer_link_in, read_report, rsna_in,
     transition_in,
 };
 use request_writer::write_request;
-
-// The number of a kind. A function: neither `Kind` nor `u8` is of this crate, so no `From` can stand here.
-fn number_of(kind: Kind) -> u8
-    ensures { result ≡ number_of kind }
-{
-    match kind {
-        Kind::Event => 0,
-        Kind::Diagnostic => 1,
-    }
-}
 
 // Writes a request frame at the front of a buffer, or nothing where it is refused.
 #[unsafe(no_mangle)]
@@ -31,7 +21,7 @@ pub extern "C" fn dultxibe_write_request(q: Request, buf: &mut [u8]) -> Reply
     ensures { write result buf.new ≡ numbered_write (write_request (kind_of q.kind) q.dialog (map element_from q.elements) q.count buf.old) }
 {
     let elements = elements_of(q.elements);
-    Reply::from(write_request(kind_of(q.kind), q.dialog, elements, q.count, buf))
+    Reply::from(write_request(Kind::from(q.kind), q.dialog, elements, q.count, buf))
 }
 
 impl From<Result<report_reader::Report, Refusal>> for Report {
@@ -41,7 +31,7 @@ impl From<Result<report_reader::Report, Refusal>> for Report {
         match r {
             Ok(report) => Report {
                 cause: 0,
-                kind: number_of(report.kind),
+                kind: u8::from(report.kind),
                 dialog: report.dialog,
                 place: 0,
                 count: report.count,
@@ -125,10 +115,11 @@ pub extern "C" fn dultxibe_next_element(form: u8, kind: u8, at: usize, s: &[u8])
     ensures { result ≡ numbered_step (cursor_step form s.now (kind_of kind) at) }
 {
     let cursor = Cursor { at };
-    Step::from(cursor.next(form, s, kind_of(kind)))
+    Step::from(cursor.next(form, s, Kind::from(kind)))
 }
 
 // The fields of an event in a form, from the octets behind a status; the element's type says which kind it is.
+// A function for each name of C.
 #[unsafe(no_mangle)]
 pub extern "C" fn dultxibe_read_transition(form: u8, o: &[u8]) -> TransitionReport
     ensures { result ≡ transition_in form o.now }

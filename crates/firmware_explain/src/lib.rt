@@ -1,6 +1,6 @@
 // The explanation of an absent event for C (include/dultxibe.h), an archive of its own: in the gate's,
 // the reader of elements and the conditions would have a second caller, and no longer be put in line.
-#![tactic(auto)]
+#![tactic(auto, unfolding(crate::specs::Numbers::numbered_explanation))]
 
 ghost use Rattle.std.specs.Prelude.{◌≡◌};
 ghost use Rattle.units.specs.Time.{elapsed_since};
@@ -14,7 +14,7 @@ use station::Station;
 
 // Why an event is absent: reason 1 logged after acceptance, 2 wrong type, 3 a condition of an ID is not
 // met, 4 limit reached, 5 it is reported; or 0, refused by a cause at a place. What a reason does not have
-// is 0.
+// is 0. Numbers, since C reads them.
 #[repr(C)]
 #[derive(Clone, Copy)]
 pub struct Explanation {
@@ -41,6 +41,7 @@ impl Explanation {
 impl From<explanations::Explanation> for Explanation {
     ghost from_gives = { λ e numbers. numbers ≡ numbered_explanation (reason_given e) };
 
+    // No step is chosen: each arm is a reason's number, and one has a condition.
     fn from(e: explanations::Explanation) -> Explanation {
         match e {
             explanations::Explanation::LoggedAfter => Explanation::plain(1),

@@ -2,11 +2,11 @@
 // kinds. Each is listed; stdout has what document 01 says of them, worked out by hand.
 #![tactic(auto)]
 
-use request_listing::{LISTING, list_frame};
+use request_listing::list_frame;
 use stdio::print;
 
 fn show(rt: &HostRuntime, frame: &[u8]) {
-    print(rt, [0u8; LISTING], |text| list_frame(frame, text));
+    print(rt, list_frame(frame));
 }
 
 // Refused by the frame's length and header.

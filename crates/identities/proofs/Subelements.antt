@@ -1,7 +1,7 @@
 -- A good identity is a list of subelements.
 -- Assumes nothing.
 use Rattle.std.proofs.Common.{ℕ, suc, ◌+◌, ◌≡◌, refl, sym, ap, ◌∙◌, Bool, true, false, List, [], ◌∷◌, ◌++◌, length, get_or, take, drop, length-drop, take-append-drop, drop_of_length-le, drop-cons, drop-drop, length-take-le, ltb, eqb-true, arith}
-use borrow.Author.Tests.{eqb-false}
+use Rattle.std.proofs.lemmas.Bool.{eqb-false}
 use Rattle.laws.specs.Choice.{when◌then◌else◌}
 use Rattle.laws.specs.Buffers.{pieces}
 use Rattle.laws.proofs.Pieces.{pieces-from}

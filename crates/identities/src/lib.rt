@@ -1,6 +1,6 @@
 // The identity (IEEE: Manufacturer Information): the table of its subelements, and the one walk over
 // it.
-#![tactic(auto)]
+#![tactic(auto, using(laws::proofs::Choice::choices), unfolding(crate::specs::Identity::stands, crate::specs::Identity::pass_row, crate::specs::Identity::good_identity))]
 
 ghost use Rattle.std.specs.Prelude.{◌≡◌};
 ghost use Rattle.identities.specs.Identity.{rows, stands as identity_stands, turn, pass_row, good_from, good_identity};
@@ -106,6 +106,7 @@ fn pass_row(s: &[u8], at: usize, row: Row) -> Option<usize>
 }
 
 // All rows in their order; behind the last one nothing is left.
+#[tactic(auto, using(laws::proofs::Choice::choices, crate::proofs::Laws::rows_next, crate::proofs::Laws::rows_stop, crate::proofs::Laws::rows_end))]
 fn pass_rows(s: &[u8]) -> bool
     ensures { result ≡ good_from s.now 0 rows }
 {

@@ -4,7 +4,7 @@ use Rattle.std.proofs.Common.{ℕ, zero, suc, ◌+◌, ◌-◌, ◌≤◌, ◌<�
 use Rattle.std.proofs.Math.Option.{none, some}
 use Rattle.std.proofs.Math.ListN.{get_elem?, length-map}
 use Rattle.std.proofs.Math.Seq.{take-set-lt, set_at, get_or_at, append_snoc}
-use mathlib.Core.List.{map-append}
+use Rattle.std.proofs.lemmas.List.{map-append, take-map, take_min as taken}
 
 -- ---- structs: what owning an array of them tells of its length
 pub length_mapped : (X Y : Type 0) (f : X → Y) (l : List X) (n : ℕ) → length (map f l) ≡ n → length l ≡ n
@@ -26,17 +26,10 @@ module _ {A : Type 0} (done blank : List A) (d : A) (n : ℕ) (e : length done �
       ∙ get_or-drop n blank 0 d
       ∙ ap (λ (k : ℕ). get_or blank k d) (add-zero n)
 
--- ---- map of parts, and of a store
+-- ---- map of parts
 module _ {A B : Type 0} (f : A → B) where
   pub map-take : (n : ℕ) (l : List A) → map f (take n l) ≡ take n (map f l)
-  map-take zero l = refl
-  map-take (suc n) [] = refl
-  map-take (suc n) (x ∷ xs) = ap {B = List B} (λ r. f x ∷ r) (map-take n xs)
-
-  pub map-set : (l : List A) (i : ℕ) (a : A) → map f (set l i a) ≡ set (map f l) i (f a)
-  map-set [] i a = refl
-  map-set (x ∷ xs) zero a = refl
-  map-set (x ∷ xs) (suc i) a = ap {B = List B} (λ r. f x ∷ r) (map-set xs i a)
+  map-take n l = sym (take-map f n l)
 
 -- ---- a loop that maps an array in place: the first i are mapped
 module _ {A : Type 0} (f : A → A) (l : List A) where
@@ -79,16 +72,7 @@ take_next xs d n i h k = rw add-one (drop-cons (take n xs) i d (omega (arith, le
 
 -- a count past the end counts as the end
 pub take_min : {A : Type 0} (n m : ℕ) (l : List A) → length l ≡ m → take (min n m) l ≡ take n l
-take_min {A} n m l e = go (leb n m) refl
-  where
-    go : (b : Bool) → leb n m ≡ b → take (min n m) l ≡ take n l
-    go true h =
-        let p = leb-true n m h in
-        let q : min n m ≡ n = omega arith in
-        ap (λ (k : ℕ). take k l) q
-    go false h =
-        let p = leb-false n m h in
-        take_all (min n m) l (omega arith) ∙ sym (take_all n l (omega arith))
+take_min n m l e = ap (λ (k : ℕ). take (min n k) l) (sym e) ∙ taken n l
 
 module _ {A : Type 0} (l : List A) (m end : ℕ) (e : length l ≡ m) (n : ℕ) (h : end ≡ min n m) where
   pub take_within : take end l ≡ take n l
@@ -117,19 +101,6 @@ pub record FillingBack {A B : Type 0} (f : A → B) (from : List A) (to : List B
   pub source : length from ≡ m
   pub places : length to ≡ m
   pub filled : drop i (take end to) ≡ map f (drop i (take end from))
-
--- nothing is left behind the first n of n
-fill_none : {A : Type 0} (n : ℕ) (l : List A) → drop n (take n l) ≡ []
-fill_none n l = drop_of_length-le (take n l) {i = n} (omega (arith, length-take n l))
-
-pub fill_begin : {A B : Type 0} (f : A → B) (from : List A) (to : List B) (m end n : ℕ) → length from ≡ m → length to ≡ m → end ≡ min n m → FillingBack f from to m end end
-fill_begin f from to m end n p q e = record {
-  begun = omega arith;
-  few = omega arith;
-  source = p;
-  places = q;
-  filled = fill_none end to ∙ sym (ap (map f) (fill_none end from));
-}
 
 module _ {A B : Type 0} {f : A → B} {from : List A} {to : List B} {m end i : ℕ} (F : FillingBack f from to m end i) where
   pub fill_back : 0 < i → (d : A) (y : B) → y ≡ f (get_or from (i - 1) d) → FillingBack f from (set to (i - 1) y) m end (i - 1)
@@ -164,9 +135,3 @@ module _ {A : Type 0} where
   element-past [] i h = refl
   element-past (x ∷ xs) zero h = absurd (not-suc-le-zero h)
   element-past (x ∷ xs) (suc i) h = element-past xs i (le_of_suc-le-suc h)
-
--- a store past the end changes nothing
-pub set_past : {A : Type 0} (l : List A) (i : ℕ) (x : A) → length l ≤ i → set l i x ≡ l
-set_past [] i x h = refl
-set_past (y ∷ ys) zero x h = absurd (let z : suc (length ys) ≤ 0 = h in omega arith)
-set_past {A} (y ∷ ys) (suc i) x h = ap {B = List A} (λ r. y ∷ r) (set_past ys i x (omega arith))

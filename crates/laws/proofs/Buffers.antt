@@ -2,8 +2,8 @@
 -- Assumes nothing.
 use Rattle.std.proofs.Common.{◌≡◌, refl, sym, ap, ◌∙◌, List, [], ◌++◌, append_assoc, append-nil, ℕ, ◌+◌, ◌-◌, ◌≤◌, ◌<◌, arith, length, take, drop, length-append, length-drop, take-append-drop, drop-drop, take_at, drop_at, length-take-le, take_all, le-leb}
 use Rattle.std.proofs.Math.Seq.{drop-append-le, drop-length}
-use borrow.Author.Tests.{lt-leb}
-use borrow.Rule.Slice.PartMut.{put_mid}
+use Rattle.std.proofs.lemmas.Bool.{lt-leb}
+use Rattle.laws.proofs.Older.{put_mid}
 use Rattle.laws.specs.Choice.{when◌then◌else◌}
 use Rattle.laws.specs.Buffers.{onto, WrittenBuffer, wrote, put_front, put_at}
 

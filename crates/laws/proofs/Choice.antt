@@ -1,6 +1,7 @@
 -- Laws of the choice.
 -- Assumes nothing.
-use Rattle.std.proofs.Common.{ℕ, ◌≡◌, refl, Bool, true, false, arith}
+use Rattle.std.proofs.Common.{◌≡◌, refl, Bool, true, false}
+use Rattle.std.proofs.lemmas.Bool.{false≢true}
 use Rattle.laws.specs.Choice.{when◌then◌else◌}
 
 -- what holds of both cases holds of the choice
@@ -17,4 +18,15 @@ apply_if f false x y = refl
 
 -- false is not true
 pub never : {A : Type 0} → false ≡ true → A
-never e = absurd (let z : ◌≡◌ {A = ℕ} 0 1 = cc in omega arith)
+never e = absurd (false≢true e)
+
+-- a choice whose test is known
+pub when_true : {A : Type 0} (x y : A) → (when true then x else y) ≡ x
+unfolding when◌then◌else◌
+when_true x y = refl
+
+pub when_false : {A : Type 0} (x y : A) → (when false then x else y) ≡ y
+unfolding when◌then◌else◌
+when_false x y = refl
+
+pub ruleset choices = (when_true, when_false)

@@ -1,4 +1,5 @@
 pub mod Choice
+pub mod Older
 pub mod Walk
 pub mod Tests
 pub mod Parts

@@ -59,11 +59,6 @@ module _ {A : Type 0} {P : A → Type 0} where
   all_end [] ps q = also q nil
   all_end (y ∷ ys) (also p ps) q = also p (all_end ys ps q)
 
-  pub all_set : (xs : List A) (i : ℕ) (x : A) → All P xs → P x → All P (set xs i x)
-  all_set [] i x p q = nil
-  all_set (y ∷ ys) zero x (also p ps) q = also q ps
-  all_set (y ∷ ys) (suc i) x (also p ps) q = also p (all_set ys i x ps q)
-
   pub all_take : (n : ℕ) (xs : List A) → All P xs → All P (take n xs)
   all_take zero xs p = nil
   all_take (suc n) [] p = nil

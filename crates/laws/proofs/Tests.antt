@@ -27,34 +27,9 @@ module _ {A : Type 0} {test : A → Bool} {l : List A} {i : ℕ} {has : Bool} (S
   unfolding any
   found_here d h e = some_here (any test) (λ x xs. test x) refl (λ x xs. refl) l i d h e ∙ S.left
 
-  pub seek_later : (d : A) → i < length l → test (get_or l i d) ≡ false → Seeking test l (i + 1) has
-  unfolding any
-  seek_later d h e = record { left = some_later (any test) (λ x xs. test x) refl (λ x xs. refl) l i d h e ∙ S.left }
-
   pub found_none : length l ≤ i → false ≡ has
   unfolding any
   found_none h = some_none (any test) (λ x xs. test x) refl (λ x xs. refl) l i h ∙ S.left
-
--- a loop that looks at all of them: the first i and one more
-pub any_next : {A : Type 0} (test : A → Bool) (l : List A) (i : ℕ) (d : A) → i < length l → any test (take (i + 1) l) ≡ (any test (take i l) || test (get_or l i d))
-unfolding any
-any_next test l i d h = rw (add-one i) (go l i h)
-  where
-    go : (l : List _) (i : ℕ) → i < length l → any test (take (suc i) l) ≡ (any test (take i l) || test (get_or l i d))
-    go [] i h = absurd (omega arith)
-    go (x ∷ l) zero h = or-false (test x)
-    go (x ∷ l) (suc i) h = ap (λ b. test x || b) (go l i (omega arith)) ∙ sym (or_assoc (test x) (any test (take i l)) (test (get_or l i d)))
-
--- what some of the last elements have, some of all have
-module _ {A : Type 0} (Some-of : List A → Bool) (one : A → List A → Bool) (cons : (x : A) (xs : List A) → Some-of (x ∷ xs) ≡ (one x xs || Some-of xs)) where
-  pub some_behind : (l : List A) (i : ℕ) → true ≡ Some-of (drop i l) → true ≡ Some-of l
-  some_behind l zero e = e
-  some_behind [] (suc i) e = e
-  some_behind (x ∷ l) (suc i) e = rw (cons x l, ← some_behind l i e) (go (one x l))
-    where
-      go : (b : Bool) → true ≡ (b || true)
-      go true = refl
-      go false = refl
 
 -- where a list has none, no place of it has, nor what stands past its end
 module _ {A : Type 0} (Some-of : List A → Bool) (one : A → Bool) (cons : (x : A) (xs : List A) → Some-of (x ∷ xs) ≡ (one x || Some-of xs)) (d : A)

@@ -4,7 +4,7 @@
 use Rattle.std.proofs.Common.{ℕ, zero, suc, ◌+◌, ◌-◌, ◌*◌, ◌≤◌, ◌<◌, max, ◌≡◌, refl, sym, ◌∙◌, ap, Bool, true, false, not, ◌&&◌, ◌||◌, List, [], ◌∷◌, ◌++◌, arith, mul-le-mul_right, ltb, eqb, length, get_or, take, length-append, length-take, eqb-true, eq-eqb, ltb-false}
 use Rattle.std.proofs.Math.Option.{Option, none, some, map, some-injective}
 use Rattle.std.proofs.Math.ListN.{length-map}
-use borrow.Author.Tests.{not-false}
+use Rattle.std.proofs.lemmas.Bool.{not-false}
 use Rattle.laws.specs.Choice.{when◌then◌else◌}
 use Rattle.laws.specs.Members.{All, nil, also}
 use Rattle.laws.proofs.Choice.{either, never}

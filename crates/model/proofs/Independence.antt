@@ -4,7 +4,7 @@
 use Rattle.std.proofs.Common.{ℕ, ◌+◌, ◌<◌, min, ◌≡◌, refl, sym, ◌∙◌, ap, ap₂, Bool, true, false, not, List, [], ◌∷◌, ◌++◌, map, arith}
 use Rattle.std.proofs.Math.Path.{fun_ext}
 use Rattle.std.proofs.Math.Option.{Option, none, some, some-injective}
-use borrow.Author.Tests.{not-false}
+use Rattle.std.proofs.lemmas.Bool.{not-false}
 use Rattle.laws.specs.Choice.{when◌then◌else◌}
 use Rattle.laws.proofs.Choice.{either, never}
 use Rattle.units.specs.Time.{age, elapsed_top, elapsed_since}

@@ -4,8 +4,8 @@
 use Rattle.std.proofs.Common.{ℕ, zero, suc, ◌+◌, ◌-◌, ◌≤◌, ◌<◌, min, ◌≡◌, refl, sym, ap, ◌∙◌, Bool, true, false, not, List, [], ◌∷◌, ◌++◌, map, append_assoc, arith, eqb, ltb, leb, length, get_or, take, drop, take-append-drop, take-add, eqb-true, eq-eqb, ne_eqb, ltb-true, ltb-false, le-ltb}
 use Rattle.std.proofs.Math.Option.{Option, none, some, some-injective}
 use Rattle.std.proofs.Math.Seq.{take-nil, take-append_seam}
-use mathlib.Core.List.{flatten}
-use mathlib.Core.Option
+use Rattle.std.specs.List.{concat}
+use Rattle.std.proofs.Math.Option
 use Rattle.laws.specs.Choice.{when◌then◌else◌}
 use Rattle.laws.proofs.Choice.{either, never}
 use Rattle.laws.specs.Buffers.{onto}
@@ -169,16 +169,14 @@ module _ (since : ℕ → ℕ → ℕ) (form : ℕ) (log : List Entry) where
 
 record Fills {R : Type 0} (next : R → Option (Piece R)) (os : List (List ℕ)) (p : Piece R) : Type 0 where
   pub count : ℕ
-  pub octets : p.octets ≡ flatten (take count os)
+  pub octets : p.octets ≡ concat (take count os)
   pub rest : GivesAll next p.rest (drop count os)
 
 module _ {R : Type 0} (next : R → Option (Piece R)) where
   fills_none : (r : R) (os : List (List ℕ)) → GivesAll next r os → Fills next os (nothing_more r)
-  unfolding flatten
   fills_none r os g = record { count = 0; octets = refl; rest = g }
 
   fills_one : (o : List ℕ) (os : List (List ℕ)) (p : Piece R) → Fills next os p → Fills next (o ∷ os) (before o p)
-  unfolding flatten
   fills_one o os p f = record { count = suc f.count; octets = ap (λ (l : List ℕ). o ++ l) f.octets; rest = f.rest }
 
   fills_with : (r : R) (room : ℕ) (behind : Piece R → Piece R) (os : List (List ℕ)) → ((p : Piece R) (os : List (List ℕ)) → GivesAll next p.rest os → Fills next os (behind p))
@@ -201,10 +199,9 @@ data Left {R : Type 0} (next : R → Option (Piece R)) : Option R → List (List
   ended : Left next none []
   standing : {r : R} {os : List (List ℕ)} → GivesAll next r os → Left next (some r) os
 
-flatten_append : (os os' : List (List ℕ)) → flatten (os ++ os') ≡ flatten os ++ flatten os'
-unfolding flatten
-flatten_append [] os' = refl
-flatten_append (o ∷ os) os' = ap (λ (l : List ℕ). o ++ l) (flatten_append os os') ∙ sym (append_assoc o (flatten os) (flatten os'))
+concat_append : (os os' : List (List ℕ)) → concat (os ++ os') ≡ concat os ++ concat os'
+concat_append [] os' = refl
+concat_append (o ∷ os) os' = ap (λ (l : List ℕ). o ++ l) (concat_append os os') ∙ sym (append_assoc o (concat os) (concat os'))
 
 framed : (o b : List ℕ) (c a d : ℕ) → behind_header (of_length (length (c ∷ a ∷ d ∷ o))) (onto (c ∷ a ∷ d ∷ o) b) ≡ o
 unfolding behind_header
@@ -219,11 +216,10 @@ module _ (since : ℕ → ℕ → ℕ) (form : ℕ) (log : List Entry) where
   -- so many of the pieces stand behind the header, and the others are left
   record Gave (os : List (List ℕ)) (x : Served) : Type 0 where
     pub count : ℕ
-    pub octets : behind_header x.answer x.buffer ≡ flatten (take count os)
+    pub octets : behind_header x.answer x.buffer ≡ concat (take count os)
     pub left : Left (next_event since form log) x.requester.events (drop count os)
 
   nothing-gave : (b : List ℕ) (r : Requester) (a : Answer) (os : List (List ℕ)) → behind_header a b ≡ [] → Left (next_event since form log) r.events os → Gave os (served r a b)
-  unfolding flatten
   nothing-gave b r a os e l = record { count = 0; octets = e; left = l }
 
 module _ (since : ℕ → ℕ → ℕ) (log : List Entry) where
@@ -267,7 +263,7 @@ module _ (k : Clock) (most : Capacities) (s : Address) (form : ℕ) (log : List 
   -- a call gave so many of them, and the others are left
   record GaveSome (os : List (List ℕ)) (g : Station) (c : Call) : Type 0 where
     pub count : ℕ
-    pub octets : events_of s c (reply k most g c) ≡ flatten (take count os)
+    pub octets : events_of s c (reply k most g c) ≡ concat (take count os)
     pub after : Standing (drop count os) (seen s (step k most g c).station)
 
   tick-stands : (os : List (List ℕ)) (reading : ℕ) (v : Seen) → Standing os v → Standing os (tick_seen k reading v)
@@ -276,7 +272,6 @@ module _ (k : Clock) (most : Capacities) (s : Address) (form : ℕ) (log : List 
 
   -- a clock reading, and what is no more to it
   gave_none : (os : List (List ℕ)) (g : Station) (c : Call) → events_of s c (reply k most g c) ≡ [] → step_seen k most s c (seen s g) ≡ tick_seen k (reading_of c) (seen s g) → Standing os (seen s g) → GaveSome os g c
-  unfolding flatten
   gave_none os g c e f x = record { count = 0; octets = e; after = rw (seen_step k most s c g, f) (tick-stands os (reading_of c) (seen s g) x) }
 
   -- another sender's
@@ -309,7 +304,7 @@ module _ (k : Clock) (most : Capacities) (s : Address) (form : ℕ) (log : List 
   seen_gave l e i b r h os x = rw e (in_form k.since log r.events os _ r.form form h (report-gave k.since log i b r os) x)
 
   own_gave : (os : List (List ℕ)) (g : Station) (t : ℕ) (kind : Kind) (b : List ℕ) → Standing os (seen s g) → GaveSome os g (report t s kind b)
-  unfolding events_of events_in flatten when◌then◌else◌
+  unfolding events_of events_in when◌then◌else◌
   own_gave os g t Event b x =
       let y = tick-stands os t (seen s g) x in
       let w = tick_seen k t (seen s g) in
@@ -348,16 +343,16 @@ module _ (k : Clock) (most : Capacities) (s : Address) (form : ℕ) (log : List 
 
   calls_gave : (later : List Call) (g : Station) (os : List (List ℕ)) → All (LetsBe s) later → Standing os (seen s g)
       → GivenInOrder os (events_given k most s g later) (outstanding_dialog Event s (run k most g later))
-  unfolding events_given run flatten seen dialog_in dialog_of
+  unfolding events_given run seen dialog_in dialog_of
   calls_gave [] g os l x =
-      record { count = 0; in_order = refl; over = λ e. sym (ap flatten (none_left os x.requester.events x.left (ap (dialog_in Event) (sym x.found) ∙ e))) }
+      record { count = 0; in_order = refl; over = λ e. sym (ap concat (none_left os x.requester.events x.left (ap (dialog_in Event) (sym x.found) ∙ e))) }
   calls_gave (c ∷ cs) g os (also l ls) x =
       let f = call-gave os g c l x in
       let r = calls_gave cs (step k most g c).station (drop f.count os) ls f.after in
       record {
         count = f.count + r.count;
-        in_order = rw (f.octets, r.in_order, take-add f.count r.count os) (sym (flatten_append (take f.count os) (take r.count (drop f.count os))));
-        over = λ e. rw (f.octets, r.over e) (sym (flatten_append (take f.count os) (drop f.count os)) ∙ ap flatten (take-append-drop f.count os));
+        in_order = rw (f.octets, r.in_order, take-add f.count r.count os) (sym (concat_append (take f.count os) (take r.count (drop f.count os))));
+        over = λ e. rw (f.octets, r.over e) (sym (concat_append (take f.count os) (drop f.count os)) ∙ ap concat (take-append-drop f.count os));
       }
 
 -- ---- the frame that opens it

@@ -5,8 +5,8 @@ use Rattle.std.proofs.Common.{ℕ, zero, suc, ◌-◌, ◌*◌, ◌≤◌, ◌<�
 use Rattle.std.proofs.Math.Path.{fun_ext}
 use Rattle.std.proofs.Math.Option.{Option, none, some}
 use Rattle.std.proofs.Math.ListN.{length-map}
-use mathlib.Core.List.{map-append}
-use mathlib.Core.Option
+use Rattle.std.proofs.lemmas.List.{map-append}
+use Rattle.std.proofs.Math.Option
 use Rattle.laws.specs.Members.{any}
 use Rattle.laws.specs.Choice.{when◌then◌else◌}
 use Rattle.laws.proofs.Choice.{either, apply_if}

@@ -2,8 +2,8 @@
 -- Assumes nothing.
 use Rattle.std.proofs.Common.{ℕ, ◌≡◌, refl, sym, ap, ◌∙◌, Bool, true, false, not, ◌||◌, List, [], ◌∷◌, ◌++◌, map, length, drop, ltb, eqb, eqb-true}
 use Rattle.std.proofs.Math.Option.{Option, none, some, some-injective}
-use mathlib.Core.List.{map-append}
-use borrow.Author.Tests.{not-false}
+use Rattle.std.proofs.lemmas.List.{map-append}
+use Rattle.std.proofs.lemmas.Bool.{not-false}
 use Rattle.laws.specs.Members.{Among, first, later, All, nil, also, any}
 use Rattle.laws.specs.Choice.{when◌then◌else◌}
 use Rattle.laws.proofs.Members.{all_end}

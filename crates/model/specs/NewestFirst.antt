@@ -2,7 +2,7 @@
 -- event request gives in all, said of a station's own report calls. Its proof is in proofs/NewestFirst.antt.
 -- Assumes nothing.
 use Rattle.std.specs.Prelude.{ℕ, min, ◌≡◌, false, length, get_or, take, drop, List, [], ◌∷◌, ◌++◌, map}
-use mathlib.Core.List.{flatten}
+use Rattle.std.specs.List.{concat}
 use Rattle.std.proofs.Math.Option.{Option, none, some}
 use Rattle.laws.specs.Choice.{when◌then◌else◌}
 use Rattle.laws.specs.Members.{All}
@@ -98,8 +98,8 @@ LetsBe s (change t l) = ⊥
 -- of all that a request has to give, so much was given, in order; and everything, once it is over
 pub record GivenInOrder (all : List (List ℕ)) (given : List ℕ) (left : Option ℕ) : Type 0 where
   pub count : ℕ
-  pub in_order : given ≡ flatten (take count all)
-  pub over : left ≡ none → given ≡ flatten all
+  pub in_order : given ≡ concat (take count all)
+  pub over : left ≡ none → given ≡ concat all
 
 abbrev pub NewestFirst : Type 0
 NewestFirst =

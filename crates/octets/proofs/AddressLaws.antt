@@ -1,6 +1,6 @@
 -- Laws of addresses.
 -- Assumes nothing.
-use lib.Pointwise.{pointwise}
+use Rattle.std.specs.Cmp.Lexicographic.{pointwise}
 use Rattle.std.proofs.Common.{nat_eq, ℕ, ◌+◌, ◌≤◌, ◌<◌, ◌≡◌, refl, sym, ap, ◌∙◌, Bool, true, false, ◌&&◌, List, [], ◌∷◌, add-one, arith, eqb, length, get_or, drop, drop_of_length-le, drop-cons, eq-eqb, ne_eqb, eqb-true}
 use Rattle.octets.specs.Addresses.{same}
 
@@ -37,9 +37,6 @@ pub record Comparing (n : ℕ) (a b : List ℕ) (i : ℕ) : Type 0 where
   pub one : length a ≡ n
   pub other : length b ≡ n
   pub left : same (drop i a) (drop i b) ≡ same a b
-
-pub compare_start : {n : ℕ} {a b : List ℕ} → length a ≡ n → length b ≡ n → Comparing n a b 0
-compare_start h k = record { most = omega arith; one = h; other = k; left = refl }
 
 module _ {n : ℕ} {a b : List ℕ} {i : ℕ} (C : Comparing n a b i) where
   module _ (h : i < n) where

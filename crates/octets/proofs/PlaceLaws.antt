@@ -77,9 +77,6 @@ module _ (s : List ℕ) where
     octets_next x h v =
         rw (is, v, add-one, octets_snoc i at) (fill_next (octets_at s at i) blank 0 i (octets-length i at) h (get_or s (at + i) 0))
 
-    pub octets_all : length blank ≤ i → out ≡ octets_at s at i
-    octets_all h = is ∙ rw (drop_of_length-le blank {i = i} h) (append-nil (octets_at s at i))
-
   -- a part that fills an array, copied into it
   pub octets_copied : (out y : List ℕ) (at from k : ℕ) → from ≡ min at (length s) → k ≡ length out → from + length out ≤ length s
       → y ≡ onto (take k (drop from s)) out → y ≡ octets_at s at (length out)
@@ -89,3 +86,6 @@ module _ (s : List ℕ) where
       ∙ rw (drop_of_length-le out {i = length (take k (drop from s))} (omega (arith, size)), m) (append-nil (take (length out) (drop from s)))
       ∙ sym (octets_part (length out) from h)
       ∙ octets-from (length out) at from e
+
+-- what the check may use of the code that reads them
+pub ruleset reads = (octets-from, octets_copied)

@@ -13,6 +13,10 @@ category = 10
 abbrev pub kind_of : ℕ → Kind
 kind_of n = when eqb n 0 then Event else Diagnostic
 
+abbrev pub number_of : Kind → ℕ
+number_of Event = 0
+number_of Diagnostic = 1
+
 -- "Actions: 0 Event Request, 1 Event Report, 2 Diagnostic Request, 3 Diagnostic Report."
 abbrev pub request_action : Kind → ℕ
 request_action Event = 0

@@ -1,10 +1,12 @@
 // Addresses of six octets.
+#![tactic(auto, using(laws::proofs::Choice::choices, crate::proofs::AddressLaws::same_pointwise))]
+
 ghost use Rattle.std.specs.Prelude.{◌≡◌};
 ghost use Rattle.octets.specs.Addresses.{same as addresses_same, is_group, address_at};
 
 use crate::fields::array_at;
 
-// Are two arrays of octets, as addresses are, the same?
+// Are two arrays of octets, as addresses are, the same? `==`, tied here once to the papers' comparison.
 pub fn same<const N: usize>(a: [u8; N], b: [u8; N]) -> bool
     ensures { result ≡ addresses_same a.entry b.entry }
 {

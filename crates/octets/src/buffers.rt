@@ -13,6 +13,7 @@ pub fn copy(o: &[u8], buf: &mut [u8]) -> usize
 }
 
 // Octets behind the first `at` of a buffer; the place behind them.
+#[tactic(auto, using(laws::proofs::Choice::choices), unfolding(laws::specs::Buffers::put_at))]
 pub fn put(buf: &mut [u8], at: usize, o: &[u8]) -> usize
     ensures { wrote result buf.new ≡ put_at o.now at buf.old }
 {

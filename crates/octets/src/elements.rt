@@ -1,4 +1,6 @@
 // The edges of elements and subelements: ID, length, body.
+#![tactic(auto, using(laws::proofs::Choice::choices, crate::proofs::ElementLaws::placed_some), unfolding(crate::specs::Elements::piece_end))]
+
 ghost use Rattle.std.specs.Prelude.{◌≡◌};
 ghost use Rattle.octets.specs.Elements.{piece_end, placed};
 

@@ -1,4 +1,6 @@
 // Fields of one octet, of two, least octet first, and of more.
+#![tactic(auto, using(laws::proofs::Choice::choices, crate::proofs::PlaceLaws::reads), unfolding(crate::specs::Fields::octets_at))]
+
 ghost use Rattle.std.specs.Prelude.{◌≡◌, ◌≤◌, ◌<◌, length, get_or};
 ghost use Rattle.octets.specs.Fields.{pair as fields_pair, low as fields_low, high as fields_high, pair_at, octets_at};
 
@@ -22,20 +24,20 @@ pub fn size(s: &[u8], at: usize) -> usize
 pub fn pair(low: u8, high: u8) -> u16
     ensures { result ≡ fields_pair low high }
 {
-    (low as u16) + 256 * (high as u16)
+    u16::from_le_bytes([low, high])
 }
 
 // The two octets of a field.
 pub fn low(x: u16) -> u8
     ensures { result ≡ fields_low x }
 {
-    (x % 256) as u8
+    x.to_le_bytes()[0]
 }
 
 pub fn high(x: u16) -> u8
     ensures { result ≡ fields_high x }
 {
-    (x / 256) as u8
+    x.to_le_bytes()[1]
 }
 
 // The field of two octets at a position, 0 past the end.

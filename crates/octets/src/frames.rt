@@ -1,4 +1,6 @@
 // The head of a frame: its length, category and action.
+#![tactic(auto, using(laws::proofs::Choice::choices), unfolding(crate::specs::Frames::frame_kind, crate::specs::Frames::frame_cause))]
+
 ghost use Rattle.std.specs.Prelude.{◌≡◌};
 ghost use Rattle.octets.specs.Frames.{frame_kind, frame_cause};
 ghost use Rattle.octets.specs.Refusals.{number_unless};

@@ -5,7 +5,6 @@
 
 mod addresses;
 mod buffers;
-mod counts;
 mod elements;
 mod fields;
 mod frames;
@@ -15,10 +14,9 @@ mod times;
 
 pub use addresses::{address_at, is_group, same};
 pub use buffers::{copy, put};
-pub use counts::{least, less_one};
 pub use elements::piece_end;
 pub use fields::{array_at, high, low, octet, pair, pair_at, read_at, size};
 pub use frames::{check_head, frame_kind};
-pub use numbers::{Kind, kind_of};
+pub use numbers::Kind;
 pub use refusals::{Cause, Refusal};
 pub use times::{good_time, time_at};

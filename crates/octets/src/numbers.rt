@@ -1,6 +1,8 @@
 // The numbers of frames, elements and statuses, each named once.
+#![tactic(auto, using(laws::proofs::Choice::choices))]
+
 ghost use Rattle.std.specs.Prelude.{◌≡◌};
-ghost use Rattle.octets.specs.Numbers.{request_action, report_action, request_id, report_id, kind_of};
+ghost use Rattle.octets.specs.Numbers.{request_action, report_action, request_id, report_id, kind_of, number_of};
 
 pub const CATEGORY: u8 = 10;
 
@@ -12,7 +14,8 @@ pub const REPORT_BUFFER: usize = 260;
 
 pub const REQUEST_BUFFER: usize = 267;
 
-// The statuses of a report that the code speaks of; Cancelled is the last.
+// The statuses of a report that the code speaks of; Cancelled is the last. Numbers, since a report that is read
+// may have any octet there.
 pub const SUCCESSFUL: u8 = 0;
 
 pub const INCAPABLE: u8 = 3;
@@ -67,12 +70,23 @@ impl Kind {
     }
 }
 
-// The kind of a number, where one stands for it: 0 is an event's.
-pub fn kind_of(number: u8) -> Kind
-    ensures { result ≡ kind_of number }
-{
-    match number {
-        0 => Kind::Event,
-        1..=255 => Kind::Diagnostic,
+// The kind of a number, where one stands for it: 0 is an event's, any other a diagnostic's.
+impl From<u8> for Kind {
+    ghost from_gives = { λ number kind. kind ≡ kind_of number };
+
+    fn from(number: u8) -> Kind {
+        match number {
+            0 => Kind::Event,
+            1..=255 => Kind::Diagnostic,
+        }
+    }
+}
+
+// Its number: 0 an event's, 1 a diagnostic's.
+impl From<Kind> for u8 {
+    ghost from_gives = { λ kind number. number ≡ number_of kind };
+
+    fn from(kind: Kind) -> u8 {
+        kind as u8
     }
 }

@@ -5,24 +5,24 @@ ghost use Rattle.octets.specs.Refusals.{cause_number};
 // The causes of document 01's table, "Why a call is turned away", in its order; the last is document 02's (f).
 #[derive(Clone, Copy, PartialEq, Eq)]
 pub enum Cause {
-    BadFrameLength,
-    BadHeader,
-    ZeroDialogToken,
-    ElementPastEnd,
-    ShortElement,
-    BadElementToken,
-    BadSubelement,
-    RepeatedSubelement,
-    TooManyElements,
-    NoElement,
-    GroupDestination,
-    UnknownRequester,
-    ShortBuffer,
-    BadTime,
-    BadRequesterList,
-    BadIdentity,
-    BadReportBody,
-    NoLoggedEvent,
+    BadFrameLength = 1,
+    BadHeader = 2,
+    ZeroDialogToken = 3,
+    ElementPastEnd = 4,
+    ShortElement = 5,
+    BadElementToken = 6,
+    BadSubelement = 7,
+    RepeatedSubelement = 8,
+    TooManyElements = 9,
+    NoElement = 10,
+    GroupDestination = 11,
+    UnknownRequester = 12,
+    ShortBuffer = 13,
+    BadTime = 14,
+    BadRequesterList = 15,
+    BadIdentity = 16,
+    BadReportBody = 17,
+    NoLoggedEvent = 18,
 }
 
 impl Cause {
@@ -30,26 +30,7 @@ impl Cause {
     pub fn number(self) -> u8
         ensures { result ≡ cause_number self }
     {
-        match self {
-            Cause::BadFrameLength => 1,
-            Cause::BadHeader => 2,
-            Cause::ZeroDialogToken => 3,
-            Cause::ElementPastEnd => 4,
-            Cause::ShortElement => 5,
-            Cause::BadElementToken => 6,
-            Cause::BadSubelement => 7,
-            Cause::RepeatedSubelement => 8,
-            Cause::TooManyElements => 9,
-            Cause::NoElement => 10,
-            Cause::GroupDestination => 11,
-            Cause::UnknownRequester => 12,
-            Cause::ShortBuffer => 13,
-            Cause::BadTime => 14,
-            Cause::BadRequesterList => 15,
-            Cause::BadIdentity => 16,
-            Cause::BadReportBody => 17,
-            Cause::NoLoggedEvent => 18,
-        }
+        self as u8
     }
 
     // For this cause, at a place.

@@ -1,4 +1,6 @@
 // Times of nine octets, and their rule (cause 14).
+#![tactic(auto, using(laws::proofs::Choice::choices), unfolding(crate::specs::Times::in_range, crate::specs::Times::good_clock, crate::specs::Times::good_date, crate::specs::Times::good_time))]
+
 ghost use Rattle.std.specs.Prelude.{◌≡◌};
 ghost use Rattle.octets.specs.Times.{in_range, good_date, good_clock, good_time, time_at};
 

@@ -10,35 +10,24 @@ ghost use Rattle.model.specs.Stations.{step};
 ghost use Rattle.station.specs.Views.{view};
 ghost use Rattle.replays.specs.Replay.{report_at, replayed, replay_trace};
 
-use octets::least;
 use replays::{Caller, LONGEST, Replayed, explain_at, list_at, outcome_at, replay_by, report_at};
-use report_listing::LISTING;
 use request_writer::write_request;
 use requesters::Answer;
 use station::{Outcome, Station};
 use stdio::{print, read_full};
 use traces::{
-    BUFFER, BUFFER_LINE, LINE, RecordKind, elements_at, put_answer, put_buffer, put_explanation,
-    put_trace_refusal, record_kind, writer_call_at,
+    RecordKind, answer_line, buffer_line, elements_at, explanation_line, lent_buffer, record_kind,
+    trace_refusal_line, writer_call_at,
 };
 
 // One octet more than the longest trace has, so that a longer input is seen to be longer.
 const INPUT: usize = LONGEST + 1;
 
-fn print_answer(rt: &HostRuntime, answer: Answer) {
-    print(rt, [0u8; LINE], |line| put_answer(line, answer));
-}
-
-// The first n octets of a lent buffer.
-fn print_buffer(rt: &HostRuntime, buf: &[u8; BUFFER], n: usize) {
-    print(rt, [0u8; BUFFER_LINE], |line| put_buffer(line, buf, n));
-}
-
 // The answer of an outcome printed, and its station.
 fn after(rt: &HostRuntime, outcome: Outcome) -> Station
     ensures { result ≡ outcome.station }
 {
-    print_answer(rt, outcome.answer);
+    print(rt, answer_line(outcome.answer));
     outcome.station
 }
 
@@ -48,29 +37,24 @@ fn report(rt: &HostRuntime, g: Station, s: &[u8], at: usize) -> Station
 {
     let r = report_at(g, s, at);
     let station = after(rt, r.outcome);
-    print_buffer(rt, &r.buf, r.length);
+    print(rt, buffer_line(&r.buf));
     station
 }
 
 fn write(rt: &HostRuntime, s: &[u8], at: usize) {
     let c = writer_call_at(s, at);
-    let n = least(c.length as usize, BUFFER);
-    let mut buf = [c.fill; BUFFER];
+    let mut buf = lent_buffer(c.fill, c.length);
     if let Some(e) = elements_at(s, c.kind, c.count, c.elements) {
-        let written = write_request(
-            c.kind,
-            c.dialog,
-            e.elements,
-            c.count as usize,
-            &mut buf[..n],
-        );
-        print_answer(rt, written.map_or_else(Answer::Refused, Answer::Length));
-        print_buffer(rt, &buf, n);
+        let count = c.count as usize;
+        let written = write_request(c.kind, c.dialog, e.elements, count, buf.as_mut_slice());
+        let answer = written.map_or_else(Answer::Refused, Answer::Length);
+        print(rt, answer_line(answer));
+        print(rt, buffer_line(&buf));
     }
 }
 
 fn read(rt: &HostRuntime, s: &[u8], at: usize) {
-    print(rt, [0u8; LISTING], |text| list_at(s, at, text));
+    print(rt, list_at(s, at));
 }
 
 // What each call gives is printed.
@@ -88,7 +72,7 @@ impl Caller for Printed<'_> {
             Some(RecordKind::ReadReport) => read(rt, s, at),
             Some(RecordKind::Explain) => {
                 let e = explain_at(g, s, at);
-                print(rt, [0u8; LINE], |line| put_explanation(line, e));
+                print(rt, explanation_line(e));
             }
             _ => return after(rt, outcome_at(g, s, at)),
         }
@@ -105,10 +89,10 @@ fn replay(rt: &HostRuntime, s: &[u8]) -> Replayed
 
 // The records of an input; what is left of it is refused.
 fn run(rt: &HostRuntime, input: &[u8]) {
-    let end = least(input.len(), LONGEST);
+    let end = input.len().min(LONGEST);
     let r = replay(rt, &input[..end]);
     if r.reached < input.len() {
-        print(rt, [0u8; LINE], |line| put_trace_refusal(line, r.reached));
+        print(rt, trace_refusal_line(r.reached));
     }
 }
 

@@ -1,7 +1,6 @@
--- Laws of a replay: the octets of a span, the station that a call leaves, and the loop over a trace's records.
+-- Laws of a replay: the station that a call leaves, and the loop over a trace's records.
 -- Assumes nothing.
-use Rattle.std.proofs.Common.{ℕ, ◌-◌, ◌≤◌, ◌<◌, min, ◌≡◌, refl, sym, ap, ◌∙◌, Bool, true, false, List, [], arith, leb, length, take, drop, length-take, length-drop, drop_of_length-le, lt-ltb, le-ltb, leb-true, leb-false}
-use Rattle.laws.proofs.Arrays.{take_min}
+use Rattle.std.proofs.Common.{ℕ, ◌-◌, ◌<◌, ◌≡◌, ap, ◌∙◌, List, [], arith, length, lt-ltb, le-ltb}
 use Rattle.laws.proofs.Walk.{Rest, start, done, again}
 use Rattle.model.specs.Model.{Station, Result, standard}
 use Rattle.model.specs.Stations.{setup}
@@ -11,22 +10,6 @@ use Rattle.station.specs.Views.{view, view_outcome}
 use Rattle.traces.specs.Records.{record_end, whole_record}
 use Rattle.traces.proofs.WalkLaws.{record_onward}
 use Rattle.replays.specs.Replay.{Replay, replayed, station_after, replay_step, replay_trace}
-
--- a span whose ends past the input's end count as that end
-pub span_cut : (s : List ℕ) (from to a e : ℕ) → e ≡ min to (length s) → a ≡ min from e → take (e - a) (drop a s) ≡ take (to - from) (drop from s)
-span_cut s from to a e ends starts = go (leb from e) refl
-  where
-    go : (b : Bool) → leb from e ≡ b → take (e - a) (drop a s) ≡ take (to - from) (drop from s)
-    go true t =
-        let p = leb-true from e t in
-        let q : a ≡ from = omega arith in
-        let n : e - from ≡ min (to - from) (length (drop from s)) = omega (arith, length-drop from s) in
-        ap (λ (k : ℕ). take (e - k) (drop k s)) q ∙ ap (λ (k : ℕ). take k (drop from s)) n ∙ take_min (to - from) (length (drop from s)) (drop from s) refl
-    go false t =
-        let p = leb-false from e t in
-        let q : e - a ≡ 0 = omega arith in
-        let none : length (take (to - from) (drop from s)) ≤ 0 = omega (arith, length-take (to - from) (drop from s), length-drop from s) in
-        ap (λ (k : ℕ). take k (drop a s)) q ∙ sym (drop_of_length-le (take (to - from) (drop from s)) {i = 0} none)
 
 -- the station that an outcome leaves is the one that the model's call leaves
 pub leaves : (r : CodeStation) (o : Outcome) (b : List ℕ) (x : Result) → r ≡ o.station → view_outcome o b ≡ x → view r ≡ x.station

@@ -2,38 +2,37 @@
 // trace. Nothing is printed here. The format of the records is that of traces.
 #![tactic(auto)]
 
-ghost use Rattle.std.specs.Prelude.{◌≡◌, []};
-ghost use Rattle.laws.specs.Buffers.{wrote};
+ghost use Rattle.std.specs.Prelude.{◌≡◌, [], ◌≤◌, length};
 ghost use Rattle.model.specs.Clocks.{elapsed_clock};
 ghost use Rattle.model.specs.Model.{standard, report as model_report};
 ghost use Rattle.model.specs.Stations.{step};
 ghost use Rattle.explanations.specs.Explanations.{explanation_read};
-ghost use Rattle.texts.specs.Text.{written, Within};
 ghost use Rattle.report_listing.specs.Listing.{frame_listing, report_listing_most};
 ghost use Rattle.station.specs.Views.{view, view_outcome};
 ghost use Rattle.traces.specs.Lines.{line_most};
 ghost use Rattle.replays.specs.Replay.{spanned, setup_at, clock_at, log_transition_at, frame_at, report_at, roam_at, change_at, log_rsna_at, log_peer_link_at, station_after, explained_at, listed_at, replayed, replay_trace, explained_line, explain_line};
 
+use arrayvec::ArrayVec;
 use explanations::Explanation;
-use octets::{Refusal, least};
+use octets::Refusal;
 use report_listing::{LISTING, list_report};
 use requesters::Answer;
 use station::{Outcome, Station};
+use texts::Text;
 use traces::{
-    BUFFER, LINE, RecordKind, Span, explain_call_at, frame_call_at, move_at, peer_link_at,
-    put_explanation, put_trace_refusal, reader_call_at, reading_at, record_end, record_kind,
-    report_call_at, requesters_at, rsna_call_at, setup_at, transition_at,
+    BUFFER, LINE, RecordKind, Span, explain_call_at, explanation_line, frame_call_at, lent_buffer,
+    move_at, peer_link_at, reader_call_at, reading_at, record_end, record_kind, report_call_at,
+    requesters_at, rsna_call_at, setup_at, trace_refusal_line, transition_at,
 };
 
 // A trace has at most so many octets.
 pub const LONGEST: usize = 262144;
 
-// What a report call gives, and its lent buffer: the first length octets of buf.
-#[derive(Clone, Copy)]
+// What a report call gives, and its lent buffer.
+#[derive(Drop)]
 pub struct Reported {
     pub outcome: Outcome,
-    pub buf: [u8; BUFFER],
-    pub length: usize,
+    pub buf: ArrayVec<u8, BUFFER>,
 }
 
 // How far the records of a trace reach, and the station after them.
@@ -47,8 +46,8 @@ pub struct Replayed {
 fn part(s: &[u8], span: Span) -> &[u8]
     ensures { result.now ≡ spanned s.now span }
 {
-    let to = least(span.to, s.len());
-    let from = least(span.from, to);
+    let to = span.to.min(s.len());
+    let from = span.from.min(to);
     &s[from..to]
 }
 
@@ -56,8 +55,8 @@ fn set_up(s: &[u8], at: usize) -> Outcome
     ensures { view_outcome result [] ≡ setup_at s.now at }
 {
     let c = setup_at(s, at);
-    let list = requesters_at(s, c.list);
-    Station::setup(part(s, c.identity), &list[..c.count as usize])
+    let list = requesters_at(s, c.count, c.list);
+    Station::setup(part(s, c.identity), list.as_slice())
 }
 
 fn tick(g: Station, s: &[u8], at: usize) -> Outcome
@@ -66,6 +65,8 @@ fn tick(g: Station, s: &[u8], at: usize) -> Outcome
     g.tick(reading_at(s, at))
 }
 
+// Two functions, this and log_peer_link: each event has its own type, reader, method of the station and case of
+// the model's call.
 fn log_transition(g: Station, s: &[u8], at: usize) -> Outcome
     ensures { view_outcome result [] ≡ step elapsed_clock standard (view g) (log_transition_at s.now at) }
 {
@@ -84,32 +85,24 @@ pub fn report_at(g: Station, s: &[u8], at: usize) -> Reported
     ensures { view result.outcome.station ≡ (step elapsed_clock standard (view g) (report_at s.now at)).station }
 {
     let c = report_call_at(s, at);
-    let length = least(c.length as usize, BUFFER);
-    let mut buf = [c.fill; BUFFER];
-    let outcome = g.report(c.reading, c.requester, c.kind, &mut buf[..length]);
-    Reported {
-        outcome,
-        buf,
-        length,
-    }
+    let mut buf = lent_buffer(c.fill, c.length);
+    let outcome = g.report(c.reading, c.requester, c.kind, buf.as_mut_slice());
+    Reported { outcome, buf }
 }
 
-// Twins but for the station's method: over a closure for it, each call would say the method's contract
-// again, to spare one of three lines.
+// Twins but for the station's method: over a closure, each call would say its contract again, to spare one line.
 fn roam(g: Station, s: &[u8], at: usize) -> Outcome
     ensures { view_outcome result [] ≡ step elapsed_clock standard (view g) (roam_at s.now at) }
 {
     let c = move_at(s, at);
-    let list = requesters_at(s, c.list);
-    g.roam(c.reading, &list[..c.count as usize])
+    g.roam(c.reading, requesters_at(s, c.count, c.list).as_slice())
 }
 
 fn change_network(g: Station, s: &[u8], at: usize) -> Outcome
     ensures { view_outcome result [] ≡ step elapsed_clock standard (view g) (change_at s.now at) }
 {
     let c = move_at(s, at);
-    let list = requesters_at(s, c.list);
-    g.change_network(c.reading, &list[..c.count as usize])
+    g.change_network(c.reading, requesters_at(s, c.count, c.list).as_slice())
 }
 
 fn log_rsna(g: Station, s: &[u8], at: usize) -> Outcome
@@ -135,7 +128,7 @@ fn unmoved(g: Station) -> Outcome
     }
 }
 
-// The outcome of the record at a position.
+// The outcome of the record at a position. A match, which the compiler holds to name every kind.
 pub fn outcome_at(g: Station, s: &[u8], at: usize) -> Outcome
     ensures { view result.station ≡ station_after s.now at (view g) }
 {
@@ -164,13 +157,13 @@ pub fn explain_at(g: Station, s: &[u8], at: usize) -> Result<Explanation, Refusa
     g.explain(part(s, c.element), c.count as usize, c.position as usize)
 }
 
-// The text of the report frame of the record at a position; its length.
-pub fn list_at(s: &[u8], at: usize, text: &mut [u8; LISTING]) -> usize
-    ensures text { wrote result text.new ≡ written (listed_at s.now at) text.old }
-    ensures within { Within report_listing_most result text.new }
+// The text of the report frame of the record at a position.
+pub fn list_at(s: &[u8], at: usize) -> Text<LISTING>
+    ensures text { result ≡ listed_at s.now at }
+    ensures within { length result ≤ report_listing_most }
 {
     let c = reader_call_at(s, at);
-    list_report(c.form, c.destination, part(s, c.frame), text)
+    list_report(c.form, c.destination, part(s, c.frame))
 }
 
 // What a replay does at each record: its call, and what is shown of that.
@@ -217,9 +210,9 @@ pub fn replay(s: &[u8]) -> Replayed
 
 // The line of a trace that is refused, or else of the explanation that the record at the front of s asks
 // for after the trace.
-fn put_explained(line: &mut [u8; LINE], s: &[u8], trace: &[u8]) -> usize
-    ensures text { wrote result line.new ≡ written (explained_line s.now trace.now) line.old }
-    ensures within { Within line_most result line.new }
+fn explained_line(s: &[u8], trace: &[u8]) -> Text<LINE>
+    ensures text { result ≡ explained_line s.now trace.now }
+    ensures within { length result ≤ line_most }
 {
     let longest = Span {
         from: 0,
@@ -227,22 +220,22 @@ fn put_explained(line: &mut [u8; LINE], s: &[u8], trace: &[u8]) -> usize
     };
     let r = replay(part(trace, longest));
     if r.reached < trace.len() {
-        return put_trace_refusal(line, r.reached);
+        return trace_refusal_line(r.reached);
     }
-    put_explanation(line, explain_at(r.station, s, 0))
+    explanation_line(explain_at(r.station, s, 0))
 }
 
-// The line that explain prints of an input, a record 12 and a trace behind it; its length.
-pub fn put_explain(line: &mut [u8; LINE], s: &[u8]) -> usize
-    ensures text { wrote result line.new ≡ written (explain_line s.now) line.old }
-    ensures within { Within line_most result line.new }
+// The line that explain prints of an input, a record 12 and a trace behind it.
+pub fn explain_line(s: &[u8]) -> Text<LINE>
+    ensures text { result ≡ explain_line s.now }
+    ensures within { length result ≤ line_most }
 {
     let Some(end) = record_end(s, 0) else {
-        return put_trace_refusal(line, 0);
+        return trace_refusal_line(0);
     };
     let behind = Span {
         from: end,
         to: s.len(),
     };
-    put_explained(line, s, part(s, behind))
+    explained_line(s, part(s, behind))
 }

@@ -4,11 +4,11 @@
 use Rattle.std.proofs.Common.{ℕ, zero, suc, ◌+◌, ◌-◌, ◌≤◌, ◌<◌, ◌≡◌, refl, sym, ap, ◌∙◌, Bool, true, false, List, [], ◌∷◌, ◌++◌, append_assoc, append-nil, arith, length, take, drop, length-append, length-drop, take-append-drop, take_at, drop_at, length-take-le, le-leb}
 use Rattle.std.proofs.Math.Option.{Option, none, some}
 use Rattle.std.proofs.Math.Nat.{sub-zero}
-use borrow.Author.Tests.{lt-leb}
-use borrow.Rule.Slice.PartMut.{put_mid}
+use Rattle.std.proofs.lemmas.Bool.{lt-leb}
+use Rattle.laws.proofs.Older.{put_mid}
 use Rattle.laws.specs.Choice.{when◌then◌else◌}
-use Rattle.laws.specs.Buffers.{onto}
-use Rattle.laws.proofs.Buffers.{length-onto, lent_length, lent}
+use Rattle.laws.specs.Buffers.{onto, WrittenBuffer, put_at}
+use Rattle.laws.proofs.Buffers.{length-onto, lent_length, lent, put_at-fits}
 use Rattle.std.specs.Prelude.{Some, None}
 use Rattle.reports.specs.Reports.{PutWhole}
 use Rattle.reports.proofs.Laws.{put_nothing, put_all}
@@ -146,7 +146,10 @@ module _ (action dialog : ℕ) (s : List ℕ) (end : ℕ) (long : 260 ≤ length
     behind-header : fill next (length (take (end - 3) (drop 3 s))) (length (take (end - 3) (drop 3 s))) q ≡ fill next (room s - 3) (room s - 3) q
     behind-header = ap (λ (k : ℕ). fill next k k q) frame-room
 
-    pub framed : (s' : List ℕ) → s' ≡ onto header (put_mid 3 (end - 3) s y) → FramedAs next action dialog q s s' n done rest
+    header-fits : 3 ≤ length (put_mid 3 (end - 3) s y)
+    header-fits = omega (arith, length-append (take 3 s) (y ++ drop (end - 3) (drop 3 s)), length-take-le 3 s (omega (arith, long)))
+
+    pub framed : (s' : List ℕ) → s' ≡ (put_at header 0 (put_mid 3 (end - 3) s y)).octets → FramedAs next action dialog q s s' n done rest
     unfolding next_frame
     framed s' e =
         let within = fill-fits next (room s - 3) (room s - 3) q in
@@ -156,6 +159,7 @@ module _ (action dialog : ℕ) (s : List ℕ) (end : ℕ) (long : 260 ≤ length
           wrote = ap (λ (k : ℕ). 3 + k) w ∙ omega arith;
           octets =
               e
+              ∙ ap (λ (w : WrittenBuffer). w.octets) (put_at-fits header 0 (put_mid 3 (end - 3) s y) header-fits)
               ∙ lent_before header (fill next (room s - 3) (room s - 3) q).octets s y 3 (end - 3) refl (omega (arith, room_some, room_within)) (omega (arith, within, ends))
               (f.octets ∙ ap (λ (p : Piece R). onto p.octets (take (end - 3) (drop 3 s))) behind-header);
           after = f.after ∙ ap (λ (p : Piece R). p.rest) behind-header;

@@ -18,7 +18,7 @@ use Rattle.requesters.specs.declared.Requester.{Requester}
 use Rattle.requesters.specs.declared.Answer.TheVariants.{Nothing, Length}
 use Rattle.requesters.specs.declared.Progress.{Progress}
 use Rattle.report_calls.specs.declared.Filled.{Filled}
-use Rattle.requesters.specs.Views.{left, events_at, progress_of, view_events, view_diagnostics, view_requester, view_answer, view_identity, view_served}
+use Rattle.requesters.specs.Views.{left, events_at, view_events, view_diagnostics, view_requester, view_answer, view_identity, view_served}
 use Rattle.report_calls.specs.Internal.{is_none, FramedAs, filled_events, answered_diagnostics}
 
 -- the octets of an identity of which 252 are taken
@@ -45,11 +45,11 @@ module _ (r : Requester) (log : List Entry) (s : List ℕ) where
   no_events e = rw e
 
   pub gives-events : (s' : List ℕ) (f : Filled Progress) → r.events.outstanding ≡ true
-      → FramedAs (next_event elapsed_since r.form log) (report_action Event) r.events.dialog (events_at r.events (progress_of r.events)) s s' f.wrote f.done (events_at r.events f.after)
+      → FramedAs (next_event elapsed_since r.form log) (report_action Event) r.events.dialog (events_at r.events r.events.progress) s s' f.wrote f.done (events_at r.events f.after)
       → view_served (record { requester = record r { events = filled_events r.events f }; answer = Length (3 + f.wrote) }) s' ≡ give_kind elapsed_since none log s (view_requester r) Event
   unfolding give_kind if_outstanding give_events view_requester view_events view_answer events_at when◌then◌else◌
   gives-events s' f e g =
-      let P = next_frame (next_event elapsed_since r.form log) (report_action Event) r.events.dialog (room s) (events_at r.events (progress_of r.events)) in
+      let P = next_frame (next_event elapsed_since r.form log) (report_action Event) r.events.dialog (room s) (events_at r.events r.events.progress) in
       let left : view_events (filled_events r.events f) ≡ unless_done P.rest (next_event elapsed_since r.form log P.rest) =
       ended-events (events_at r.events f.after) (next_event elapsed_since r.form log (events_at r.events f.after)) f.done g.ended
       ∙ ap (λ (q : EventRequest). unless_done q (next_event elapsed_since r.form log q)) g.after in

@@ -1,4 +1,5 @@
-// Diagnostic reports: the elements of a request, each with one report.
+// Diagnostic reports: the elements of a request, each with one report. The identity, which is read, goes beside
+// the buffer, which is written.
 ghost use Rattle.std.specs.Prelude.{◌≡◌, take};
 ghost use Rattle.reports.specs.Reports.{PutWhole};
 ghost use Rattle.model.specs.Diagnostics.{diagnostic_treatment, diagnostic_report, next_diagnostic};
@@ -7,8 +8,8 @@ ghost use Rattle.report_calls.specs.Internal.{FilledAs};
 
 use crate::Filled;
 use model::{Diagnostic, Treatment};
-use octets::{Kind, least, numbers};
-use reports::{put_list, put_plain};
+use octets::{Kind, numbers};
+use reports::{Head, put_list, put_plain};
 use requesters::{DiagnosticRequest, diagnostic_treatment};
 use requests::ELEMENT_CAPACITY;
 
@@ -16,16 +17,22 @@ use requests::ELEMENT_CAPACITY;
 fn put_diagnostic(x: Diagnostic, identity: &[u8], buf: &mut [u8]) -> Option<usize>
     ensures { PutWhole (diagnostic_report (take 252 identity.now) x (diagnostic_treatment x.ty)) buf.old result buf.new }
 {
+    let head = Head {
+        kind: Kind::Diagnostic,
+        token: x.token,
+        ty: x.ty,
+        status: numbers::INCAPABLE,
+    };
     match diagnostic_treatment(x.ty) {
         Treatment::Identity => put_list(
             buf,
-            Kind::Diagnostic,
-            x.token,
-            x.ty,
-            numbers::SUCCESSFUL,
+            Head {
+                status: numbers::SUCCESSFUL,
+                ..head
+            },
             identity,
         ),
-        _ => put_plain(buf, Kind::Diagnostic, x.token, x.ty, numbers::INCAPABLE),
+        _ => put_plain(buf, head),
     }
 }
 
@@ -33,7 +40,7 @@ fn put_diagnostic(x: Diagnostic, identity: &[u8], buf: &mut [u8]) -> Option<usiz
 pub(crate) fn fill_diagnostics(d: DiagnosticRequest, identity: &[u8], buf: &mut [u8]) -> Filled<u8>
     ensures { FilledAs (next_diagnostic (take 252 identity.now)) (left d.first d.count d.elements) buf.old buf.new result.wrote result.done (left result.after d.count d.elements) }
 {
-    let end = least(d.count as usize, ELEMENT_CAPACITY) as u8;
+    let end = (d.count as usize).min(ELEMENT_CAPACITY) as u8;
     let mut at: usize = 0;
     for i in d.first..end {
         let x = d.elements[i as usize];

@@ -7,7 +7,7 @@ mod report_frames;
 
 pub use report_frames::give_report;
 
-// What filling a buffer came to: so many octets were written, whether the request has nothing more, and
+// What filling a buffer that C lends came to: so many octets were written, whether the request has nothing more, and
 // how far it has come: it has come so far in either case, which an Option or a Result would say twice.
 #[derive(Clone, Copy)]
 pub(crate) struct Filled<P> {

@@ -3,31 +3,30 @@ ghost use Rattle.std.specs.Prelude.{◌≡◌, [], ◌∷◌, ◌+◌, ◌≤◌
 ghost use Rattle.std.proofs.Math.Option.{none};
 ghost use Rattle.octets.specs.declared.numbers.Kind.TheVariants.{Event, Diagnostic};
 ghost use Rattle.octets.specs.Numbers.{category, longest_frame, report_action};
-ghost use Rattle.laws.specs.Buffers.{onto};
+ghost use Rattle.laws.specs.Buffers.{put_at};
 ghost use Rattle.events.specs.Log.{logged};
 ghost use Rattle.units.specs.Time.{elapsed_since};
 ghost use Rattle.model.specs.Events.{next_event};
 ghost use Rattle.model.specs.Diagnostics.{next_diagnostic};
 ghost use Rattle.model.specs.Stations.{give_kind, give_report};
-ghost use Rattle.requesters.specs.Views.{left, events_at, progress_of, view_identity, view_requester, view_served};
+ghost use Rattle.requesters.specs.Views.{left, events_at, view_identity, view_requester, view_served};
 ghost use Rattle.report_calls.specs.Internal.{FramedAs, filled_events, answered_diagnostics};
 
 use crate::Filled;
 use crate::diagnostic_reports::fill_diagnostics;
 use crate::event_reports::fill_events;
 use events::Log;
-use octets::{Cause, Kind, least, numbers, put};
+use octets::{Cause, Kind, numbers, put};
 use requesters::{Answer, DiagnosticRequest, EventRequest, Progress, Requester, Served};
 
-// An event request after a buffer was filled from it.
+// An event request after a buffer was filled from it. The diagnostic's below has another type and another field:
+// a trait over both would be longer than the two.
 fn after_events(r: EventRequest, f: Filled<Progress>) -> EventRequest
     ensures { result ≡ filled_events r f }
 {
     let mut next = r;
     next.outstanding = !f.done;
-    next.given = f.after.given;
-    next.below = f.after.below;
-    next.first = f.after.first;
+    next.progress = f.after;
     next
 }
 
@@ -45,13 +44,12 @@ fn after_diagnostics(r: DiagnosticRequest, f: Filled<u8>) -> DiagnosticRequest
 fn frame_end(len: usize) -> usize
     ensures { result ≡ min len longest_frame }
 {
-    least(len, numbers::LONGEST_FRAME)
+    len.min(numbers::LONGEST_FRAME)
 }
 
-// The header at the front of a buffer.
+// The header at the front of a buffer, where it fits.
 fn put_header(buf: &mut [u8], kind: Kind, dialog: u8)
-    requires { 260 ≤ length buf.old }
-    ensures { buf.new ≡ onto (category ∷ report_action kind ∷ dialog ∷ []) buf.old }
+    ensures { buf.new ≡ (put_at (category ∷ report_action kind ∷ dialog ∷ []) 0 buf.old).octets }
 {
     let header = [numbers::CATEGORY, kind.report_action(), dialog];
     put(buf, 0, &header);
@@ -59,9 +57,12 @@ fn put_header(buf: &mut [u8], kind: Kind, dialog: u8)
 
 // An Event Report frame, in a form. The header comes last: the compiler cannot tell a lent buffer from
 // a lent station, and what is written before the log is copied would cost a copy of the log.
+// That the header fits is a clause here and below: with the buffer split into an array of three octets and the
+// rest, a report of 8 of 64 events by conditions took 7,711 instructions for 7,546, with this and its caller in
+// one function 7,599.
 fn frame_events(form: u8, log: Log, r: EventRequest, buf: &mut [u8]) -> Filled<Progress>
     requires { 260 ≤ length buf.old }
-    ensures { FramedAs (next_event elapsed_since form (logged log)) (report_action Event) r.dialog (events_at r (progress_of r)) buf.old buf.new result.wrote result.done (events_at r result.after) }
+    ensures { FramedAs (next_event elapsed_since form (logged log)) (report_action Event) r.dialog (events_at r r.progress) buf.old buf.new result.wrote result.done (events_at r result.after) }
 {
     let end = frame_end(buf.len());
     let f = fill_events(form, log, r, &mut buf[3..end]);

@@ -1,8 +1,8 @@
 -- Laws of the listing: its time fields, the lines of the elements that the cursor hands out, and how long they are at most; what is read of a frame that is not refused.
 -- Assumes nothing.
-use borrow.Author.Tests.{eqb-false, not-true, not-false}
+use Rattle.std.proofs.lemmas.Bool.{eqb-false, not-true, not-false}
 use Rattle.laws.specs.Choice.{when◌then◌else◌}
-use Rattle.laws.specs.Buffers.{pieces, wrote, put_at}
+use Rattle.laws.specs.Buffers.{pieces}
 use Rattle.laws.proofs.Choice.{either}
 use Rattle.laws.proofs.Pieces.{pieces_snoc}
 use Rattle.laws.proofs.Walk.{Rest, start, done, last, again, go_on, stop_refused, stop_end}
@@ -17,7 +17,7 @@ use Rattle.report_reader.specs.Reader.{step_read}
 use Rattle.octets.specs.Numbers.{report_action, longest_frame}
 use Rattle.octets.specs.Frames.{frame_cause}
 use Rattle.octets.proofs.FrameLaws.{head-length}
-use Rattle.texts.specs.Text.{text, decimal, Puts}
+use Rattle.texts.specs.Text.{text, decimal, Puts, put_whole}
 use Rattle.texts.proofs.NumberLaws.{decimal-length}
 use Rattle.texts.proofs.PutLaws.{one, at_most, nothing, both}
 use Rattle.events.specs.Times.{is_form}
@@ -28,12 +28,12 @@ use Rattle.report_listing.specs.Internal.{unread_most, tail_most, report_line_mo
 
 -- ---- a time field
 
-module _ (front : List ℕ) (digits ones k at n : ℕ) (s y : List ℕ) where
-  pub time_unknown : k ≡ ones → wrote n y ≡ put_at (front ++ text "?") at s → Puts (length front + 5) (time_field front digits ones k) at s n y
+module _ (room : ℕ) (front : List ℕ) (digits ones k : ℕ) (s y : List ℕ) where
+  pub time_unknown : k ≡ ones → y ≡ put_whole room (front ++ text "?") s → Puts room (length front + 5) (time_field front digits ones k) s y
   unfolding time_field when◌then◌else◌
   time_unknown e does = rw (eq-eqb k ones e) (at_most (length front + 5) (omega (arith, length-append front (text "?"))) (one does))
 
-  pub time_known : (k ≡ ones → ⊥) → k < 65536 → digits ≤ 5 → wrote n y ≡ put_at (front ++ decimal digits k) at s → Puts (length front + 5) (time_field front digits ones k) at s n y
+  pub time_known : (k ≡ ones → ⊥) → k < 65536 → digits ≤ 5 → y ≡ put_whole room (front ++ decimal digits k) s → Puts room (length front + 5) (time_field front digits ones k) s y
   unfolding time_field when◌then◌else◌
   time_known e small few does =
       rw (ne_eqb k ones e) (at_most (length front + 5) (omega (arith, length-append front (decimal digits k), decimal-length 5 digits k (omega arith) (omega arith) few)) (one does))
@@ -53,28 +53,26 @@ line-most s cur t x = go t.element.logged x.event
 
 -- ---- the loop over a cursor: es are handed out and written, what is left of the walk gives the rest
 
-pub record Listed (form : ℕ) (s : List ℕ) (kind : Kind) (from : ℕ) (old buf : List ℕ) (at cur : ℕ) : Type 0 where
+pub record Listed (room form : ℕ) (s : List ℕ) (kind : Kind) (old new : List ℕ) (cur : ℕ) : Type 0 where
   pub es : List ElementRead
   pub rest : Rest (unread (length s)) (read_step form s kind) (read_elements form s kind) (length s - cur) (reading no_refusal cur es)
   pub front : 3 ≤ cur
   pub within : cur - 3 ≤ length s - 3
-  pub same : length buf ≡ length old
-  pub puts : Puts (lines_most cur) (report_element_lines form kind es) from old at buf
+  pub puts : Puts room (lines_most cur) (report_element_lines form kind es) old new
 
-pub listed_start : (form : ℕ) (s : List ℕ) (kind : Kind) (from : ℕ) (buf : List ℕ) → Listed form s kind from buf buf from 3
+pub listed_start : (room form : ℕ) (s : List ℕ) (kind : Kind) (old : List ℕ) → Listed room form s kind old old 3
 unfolding read_elements pieces
-listed_start form s kind from buf = record {
+listed_start room form s kind old = record {
   es = [];
   rest = start (unread (length s)) (read_step form s kind) (length s) (length s - 3) (reading no_refusal 3 []) (omega arith);
   front = omega arith;
   within = omega arith;
-  same = refl;
-  puts = nothing from buf;
+  puts = nothing room old;
 }
 
-module _ {form : ℕ} {s : List ℕ} {kind : Kind} {from : ℕ} {old buf : List ℕ} {at cur : ℕ} (l : Listed form s kind from old buf at cur) (told : is_form form ≡ true)
+module _ {room form : ℕ} {s : List ℕ} {kind : Kind} {old new : List ℕ} {cur : ℕ} (l : Listed room form s kind old new cur) (told : is_form form ≡ true)
     (fine : (read_elements form s kind).refusal.number ≡ 0) where
-  pub listed_end : length s ≤ cur → Puts (lines_most (length s)) (report_element_lines form kind (read_elements form s kind).elements) from old at buf
+  pub listed_end : length s ≤ cur → Puts room (lines_most (length s)) (report_element_lines form kind (read_elements form s kind).elements) old new
   listed_end end =
       let e : reading no_refusal cur l.es ≡ read_elements form s kind = done l.rest (stop_end 0 cur (length s) refl end) in
       rw (← e) (at_most (lines_most (length s)) (omega (arith, l.within)) l.puts)
@@ -102,35 +100,33 @@ module _ {form : ℕ} {s : List ℕ} {kind : Kind} {from : ℕ} {old buf : List 
     on : Forward s cur t
     on = goes_on form s kind cur t is accepted
 
-    pub listed_next : {n : ℕ} {y : List ℕ} → length y ≡ length buf → Puts (step_most t) (step_line form s kind t) at buf n y → Listed form s kind from old y n t.next.at
+    pub listed_next : {y : List ℕ} → Puts room (step_most t) (step_line form s kind t) new y → Listed room form s kind old y t.next.at
     unfolding read_step gathered step_line step_most when◌then◌else◌
-    listed_next {n} {y} keeps q = go t.found refl
+    listed_next {y} q = go t.found refl
       where
-        go : (b : Bool) → t.found ≡ b → Listed form s kind from old y n t.next.at
+        go : (b : Bool) → t.found ≡ b → Listed room form s kind old y t.next.at
         go true f =
             let x : ElementRead = element_read_at form s t in
             let e : reading no_refusal t.next.at (l.es ++ (x ∷ [])) ≡ read_step form s kind (reading no_refusal cur l.es) = rw (← stands, eq-eqb t.refusal.number 0 accepted, f) in
             let g = on in
-            let p : Puts (report_line_most t.element.logged) (report_element_line form kind x) at buf n y = rw f at q in
+            let p : Puts room (report_line_most t.element.logged) (report_element_line form kind x) new y = rw f at q in
             record {
               es = l.es ++ (x ∷ []);
               rest = again (length s - t.next.at) l.rest goes (omega (arith, g.on)) e;
               front = omega (arith, g.on, l.front);
               within = omega (arith, g.within);
-              same = keeps ∙ l.same;
               puts = rw (pieces_snoc (λ (r : ElementRead). report_element_line form kind r) 0 l.es x)
                   (at_most (lines_most t.next.at) (omega (arith, g.on, l.front, line-most s cur t (found_extent form s kind cur t is f))) (both l.puts p));
             }
         go false f =
             let e : reading no_refusal t.next.at l.es ≡ read_step form s kind (reading no_refusal cur l.es) = rw (← stands, eq-eqb t.refusal.number 0 accepted, f) in
             let g = on in
-            let p : Puts 0 [] at buf n y = rw f at q in
+            let p : Puts room 0 [] new y = rw f at q in
             record {
               es = l.es;
               rest = again (length s - t.next.at) l.rest goes (omega (arith, g.on)) e;
               front = omega (arith, g.on, l.front);
               within = omega (arith, g.within);
-              same = keeps ∙ l.same;
               puts = rw append-nil at (at_most (lines_most t.next.at) (omega (arith, g.on)) (both l.puts p));
             }
 

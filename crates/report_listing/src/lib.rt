@@ -1,11 +1,10 @@
-// Report frames: the listing that the program `report` prints, whole, into an array that has room for
-// every one of them.
+// Report frames: the listing that the program `report` prints, whole, in a text that has room for every
+// one of them.
 #![tactic(auto)]
 
-ghost use Rattle.std.specs.Prelude.{◌≡◌, true, ◌+◌, ◌*◌, ◌≤◌, ◌<◌, length, get_or, Ok};
+ghost use Rattle.std.specs.Prelude.{◌≡◌, true, [], ◌+◌, ◌*◌, ◌≤◌, ◌<◌, length, get_or, Ok};
 ghost use Rattle.octets.specs.Fields.{pair_at};
-ghost use Rattle.laws.specs.Buffers.{wrote};
-ghost use Rattle.texts.specs.Text.{Puts, written, Within};
+ghost use Rattle.texts.specs.Text.{Puts};
 ghost use Rattle.events.specs.Times.{is_form};
 ghost use Rattle.report_reader.specs.Decoders.{decoded};
 ghost use Rattle.report_reader.specs.Reader.{element_read, step_read, read_elements};
@@ -14,14 +13,12 @@ ghost use Rattle.report_listing.specs.Internal.{times_most, event_most, unread_m
 
 use events::rsna_events::RSN_LENGTH;
 use events::{DRAFT, Times, is_form};
-use octets::{Cause, Kind, address_at, least, numbers, octet, pair, pair_at, put, size};
+use octets::{Cause, Kind, address_at, numbers, octet, pair, pair_at, size};
 use report_reader::{
     Cursor, Element, PeerLinkReport, RsnaReport, Step, TransitionReport, peer_link_in, read_report,
     rsna_in, transition_in,
 };
-use texts::{
-    put_element_head, put_field, put_frame, put_hex, put_hexes, put_number, put_refusal, put_two,
-};
+use texts::Text;
 
 // What the longest listing has at most: 52 octets for the first line, and 14 for each octet that the
 // elements take of a frame.
@@ -30,141 +27,137 @@ pub const LISTING: usize = 52 + 14 * (numbers::LONGEST_FRAME - 3);
 // ---- an element
 
 // A time field behind a text, `?` where it is all ones.
-fn put_time_field(
-    buf: &mut [u8],
-    at: usize,
-    front: &[u8],
-    digits: usize,
-    ones: u16,
-    n: u16,
-) -> usize
+fn put_time_field(text: &mut Text<LISTING>, front: &[u8], digits: usize, ones: u16, n: u16)
     requires { digits ≤ 5 }
-    ensures { Puts (length front.now + 5) (time_field front.now digits ones n) at buf.old result buf.new }
+    ensures { Puts LISTING (length front.now + 5) (time_field front.now digits ones n) text.old text.new }
 {
     if n == ones {
-        return put_two(buf, at, front, b"?");
+        text.put_two(front, b"?")
+    } else {
+        text.number(front, u64::from(n), digits)
     }
-    put_number(buf, at, front, u64::from(n), digits)
 }
 
 // One of one octet.
-fn put_time_octet(buf: &mut [u8], at: usize, front: &[u8], n: u8) -> usize
-    ensures { Puts (length front.now + 5) (time_field front.now 2 255 n) at buf.old result buf.new }
+fn put_time_octet(text: &mut Text<LISTING>, front: &[u8], n: u8)
+    ensures { Puts LISTING (length front.now + 5) (time_field front.now 2 255 n) text.old text.new }
 {
-    put_time_field(buf, at, front, 2, 255, u16::from(n))
+    put_time_field(text, front, 2, 255, u16::from(n));
 }
 
-fn put_date(buf: &mut [u8], at: usize, year: u16, month: u8, day: u8) -> usize
-    ensures { Puts 23 (date_text year month day) at buf.old result buf.new }
+fn put_date(text: &mut Text<LISTING>, year: u16, month: u8, day: u8)
+    ensures { Puts LISTING 23 (date_text year month day) text.old text.new }
 {
-    let next = put_time_field(buf, at, b" time ", 4, 65535, year);
-    let next = put_time_octet(buf, next, b"-", month);
-    put_time_octet(buf, next, b"-", day)
+    put_time_field(text, b" time ", 4, 65535, year);
+    put_time_octet(text, b"-", month);
+    put_time_octet(text, b"-", day);
 }
 
-fn put_clock(buf: &mut [u8], at: usize, hour: u8, minute: u8, second: u8, ms: u16) -> usize
-    ensures { Puts 24 (clock_text hour minute second ms) at buf.old result buf.new }
+fn put_clock(text: &mut Text<LISTING>, hour: u8, minute: u8, second: u8, ms: u16)
+    ensures { Puts LISTING 24 (clock_text hour minute second ms) text.old text.new }
 {
-    let next = put_time_octet(buf, at, b" ", hour);
-    let next = put_time_octet(buf, next, b":", minute);
-    let next = put_time_octet(buf, next, b":", second);
-    put_time_field(buf, next, b".", 3, 65535, ms)
+    put_time_octet(text, b" ", hour);
+    put_time_octet(text, b":", minute);
+    put_time_octet(text, b":", second);
+    put_time_field(text, b".", 3, 65535, ms);
 }
 
-fn put_time(buf: &mut [u8], at: usize, time: [u8; 9]) -> usize
-    ensures { Puts 47 (time_text time) at buf.old result buf.new }
+fn put_time(text: &mut Text<LISTING>, time: [u8; 9])
+    ensures { Puts LISTING 47 (time_text time) text.old text.new }
 {
-    let next = put_date(buf, at, pair(time[7], time[8]), time[6], time[5]);
-    put_clock(buf, next, time[4], time[3], time[2], pair(time[0], time[1]))
+    put_date(text, pair(time[7], time[8]), time[6], time[5]);
+    put_clock(text, time[4], time[3], time[2], pair(time[0], time[1]));
 }
 
 // Octets behind a name, as they stand.
-fn put_bare(buf: &mut [u8], at: usize, name: &[u8], o: &[u8]) -> usize
-    ensures { Puts (length name.now + 2 * length o.now) (bare_text name.now o.now) at buf.old result buf.new }
+fn put_bare(text: &mut Text<LISTING>, name: &[u8], o: &[u8])
+    ensures { Puts LISTING (length name.now + 2 * length o.now) (bare_text name.now o.now) text.old text.new }
 {
-    let next = put(buf, at, name);
-    put_hexes(buf, next, b"", o)
+    text.put(name);
+    text.hexes(b"", o);
 }
 
-fn put_published(buf: &mut [u8], at: usize, t: Times) -> usize
-    ensures { Puts times_most (published_text t) at buf.old result buf.new }
+fn put_published(text: &mut Text<LISTING>, t: Times)
+    ensures { Puts LISTING times_most (published_text t) text.old text.new }
 {
-    let next = put_bare(buf, at, b" tsf ", &t.tsf);
-    let next = put_bare(buf, next, b" offset ", &t.offset);
-    put_bare(buf, next, b" error ", &t.error)
+    put_bare(text, b" tsf ", &t.tsf);
+    put_bare(text, b" offset ", &t.offset);
+    put_bare(text, b" error ", &t.error);
 }
 
-fn put_times(buf: &mut [u8], at: usize, form: u8, t: Times) -> usize
-    ensures { Puts times_most (times_text form t) at buf.old result buf.new }
+// The form goes beside the text, here and below: in a struct of both each clause would say that it stays.
+fn put_times(text: &mut Text<LISTING>, form: u8, t: Times)
+    ensures { Puts LISTING times_most (times_text form t) text.old text.new }
 {
     if form == DRAFT {
-        return put_time(buf, at, t.time);
+        put_time(text, t.time)
+    } else {
+        put_published(text, t)
     }
-    put_published(buf, at, t)
 }
 
 // Octets behind a name, with colons between them.
-fn put_colons(buf: &mut [u8], at: usize, name: &[u8], o: &[u8]) -> usize
+fn put_colons(text: &mut Text<LISTING>, name: &[u8], o: &[u8])
     requires { 0 < length o.now }
-    ensures { Puts (length name.now + 3 * length o.now) (colon_text name.now o.now) at buf.old result buf.new }
+    ensures { Puts LISTING (length name.now + 3 * length o.now) (colon_text name.now o.now) text.old text.new }
 {
-    let next = put_hex(buf, at, name, o[0]);
-    put_hexes(buf, next, b":", &o[1..])
+    text.hex(name, o[0]);
+    text.hexes(b":", &o[1..]);
 }
 
-fn put_signals(buf: &mut [u8], at: usize, signals: [u8; 4]) -> usize
-    ensures { Puts 64 (signals_text signals) at buf.old result buf.new }
+fn put_signals(text: &mut Text<LISTING>, signals: [u8; 4])
+    ensures { Puts LISTING 64 (signals_text signals) text.old text.new }
 {
-    let next = put_field(buf, at, b" source-rcpi ", signals[0]);
-    let next = put_field(buf, next, b" source-rsni ", signals[1]);
-    let next = put_field(buf, next, b" target-rcpi ", signals[2]);
-    put_field(buf, next, b" target-rsni ", signals[3])
+    text.field(b" source-rcpi ", signals[0]);
+    text.field(b" source-rsni ", signals[1]);
+    text.field(b" target-rcpi ", signals[2]);
+    text.field(b" target-rsni ", signals[3]);
 }
 
-fn put_transition(buf: &mut [u8], at: usize, form: u8, e: TransitionReport) -> usize
-    ensures { Puts event_most (transition_text form e) at buf.old result buf.new }
+fn put_transition(text: &mut Text<LISTING>, form: u8, e: TransitionReport)
+    ensures { Puts LISTING event_most (transition_text form e) text.old text.new }
 {
-    let next = put_times(buf, at, form, e.times);
-    let next = put_colons(buf, next, b" source ", &e.source);
-    let next = put_colons(buf, next, b" target ", &e.target);
-    let next = put_field(buf, next, b" transition ", e.took.0);
-    let next = put_field(buf, next, b" reason ", e.reason);
-    let next = put_field(buf, next, b" result ", e.result);
-    put_signals(buf, next, e.signals)
+    put_times(text, form, e.times);
+    put_colons(text, b" source ", &e.source);
+    put_colons(text, b" target ", &e.target);
+    text.field(b" transition ", e.took.0);
+    text.field(b" reason ", e.reason);
+    text.field(b" result ", e.result);
+    put_signals(text, e.signals);
 }
 
 // The vendor of an EAP method, where its first octet says that there is one.
-fn put_vendor(buf: &mut [u8], at: usize, method: [u8; 8]) -> usize
-    ensures { Puts 42 (vendor_text method) at buf.old result buf.new }
+fn put_vendor(text: &mut Text<LISTING>, method: [u8; 8])
+    ensures { Puts LISTING 42 (vendor_text method) text.old text.new }
 {
     if method[0] != 254 {
-        return at;
+        return;
     }
-    let next = put_colons(buf, at, b" vendor ", &method[1..4]);
-    put_colons(buf, next, b" vendor-type ", &method[4..])
+    put_colons(text, b" vendor ", &method[1..4]);
+    put_colons(text, b" vendor-type ", &method[4..]);
 }
 
 // The RSN element, where one is there.
-fn put_rsn(buf: &mut [u8], at: usize, rsn: [u8; RSN_LENGTH], size: usize) -> usize
-    ensures { Puts 49 (rsn_text rsn size) at buf.old result buf.new }
+fn put_rsn(text: &mut Text<LISTING>, rsn: [u8; RSN_LENGTH], size: usize)
+    ensures { Puts LISTING 49 (rsn_text rsn size) text.old text.new }
 {
     if size == 0 {
-        return at;
+        return;
     }
-    let n = least(size, RSN_LENGTH);
-    put_bare(buf, at, b" rsn ", &rsn[..n])
+    let n = size.min(RSN_LENGTH);
+    put_bare(text, b" rsn ", &rsn[..n]);
 }
 
-fn put_rsna(buf: &mut [u8], at: usize, form: u8, e: RsnaReport) -> usize
-    ensures { Puts event_most (rsna_text form e) at buf.old result buf.new }
+fn put_rsna(text: &mut Text<LISTING>, form: u8, e: RsnaReport)
+    ensures { Puts LISTING event_most (rsna_text form e) text.old text.new }
 {
-    let next = put_times(buf, at, form, e.times);
-    let next = put_colons(buf, next, b" target ", &e.target);
-    let next = put_colons(buf, next, b" authentication ", &e.authentication);
-    let next = put_field(buf, next, b" eap ", e.method[0]);
-    let next = put_vendor(buf, next, e.method);
-    let next = put_field(buf, next, b" result ", e.result);
-    put_rsn(buf, next, e.rsn, e.size)
+    put_times(text, form, e.times);
+    put_colons(text, b" target ", &e.target);
+    put_colons(text, b" authentication ", &e.authentication);
+    text.field(b" eap ", e.method[0]);
+    put_vendor(text, e.method);
+    text.field(b" result ", e.result);
+    put_rsn(text, e.rsn, e.size);
 }
 
 // A number of three octets.
@@ -174,146 +167,147 @@ fn three(o: [u8; 3]) -> usize
     usize::from(pair_at(&o, 0)) + 65536 * size(&o, 2)
 }
 
-fn put_peer_link(buf: &mut [u8], at: usize, form: u8, e: PeerLinkReport) -> usize
-    ensures { Puts event_most (peer_link_text form e) at buf.old result buf.new }
+fn put_peer_link(text: &mut Text<LISTING>, form: u8, e: PeerLinkReport)
+    ensures { Puts LISTING event_most (peer_link_text form e) text.old text.new }
 {
-    let next = put_times(buf, at, form, e.times);
-    let next = put_colons(buf, next, b" peer ", &e.peer);
-    let next = put_field(buf, next, b" class ", e.class);
-    let next = put_field(buf, next, b" channel ", e.channel);
-    let next = put_field(buf, next, b" power ", e.power);
-    let next = put_field(buf, next, b" connection ", three(e.connection));
-    put_field(buf, next, b" peer-status ", e.status)
+    put_times(text, form, e.times);
+    put_colons(text, b" peer ", &e.peer);
+    text.field(b" class ", e.class);
+    text.field(b" channel ", e.channel);
+    text.field(b" power ", e.power);
+    text.field(b" connection ", three(e.connection));
+    text.field(b" peer-status ", e.status);
 }
 
-// The event of a type, from its octets.
-fn put_event(buf: &mut [u8], at: usize, form: u8, ty: u8, o: &[u8]) -> usize
-    ensures { Puts event_most (event_text form (decoded form ty o.now)) at buf.old result buf.new }
+// The event of a type, from its octets. A type is the octet that was read, here and below.
+fn put_event(text: &mut Text<LISTING>, form: u8, ty: u8, o: &[u8])
+    ensures { Puts LISTING event_most (event_text form (decoded form ty o.now)) text.old text.new }
 {
     match ty {
-        0 => put_transition(buf, at, form, transition_in(form, o)),
-        1 => put_rsna(buf, at, form, rsna_in(form, o)),
-        2..=255 => put_peer_link(buf, at, form, peer_link_in(form, o)),
+        0 => put_transition(text, form, transition_in(form, o)),
+        1 => put_rsna(text, form, rsna_in(form, o)),
+        2..=255 => put_peer_link(text, form, peer_link_in(form, o)),
     }
 }
 
 // The octets of other event types, kept unread.
-fn put_unread(buf: &mut [u8], at: usize, ty: u8, n: usize) -> usize
-    ensures { Puts unread_most (unread_text ty n) at buf.old result buf.new }
+fn put_unread(text: &mut Text<LISTING>, ty: u8, n: usize)
+    ensures { Puts LISTING unread_most (unread_text ty n) text.old text.new }
 {
     match ty {
-        0..=2 => at,
-        3..=255 => put_field(buf, at, b" rest ", n),
+        0..=2 => {}
+        3..=255 => text.field(b" rest ", n),
     }
 }
 
-// What an event report has behind its status.
-fn put_event_tail(buf: &mut [u8], at: usize, form: u8, e: Element, o: &[u8]) -> usize
-    ensures { Puts (tail_most e.logged) (event_tail form (element_read form e o.now).event e) at buf.old result buf.new }
+// What an event report has behind its status. An element and its octets stay apart, as the cursor gives them, and
+// the kind is the frame's.
+fn put_event_tail(text: &mut Text<LISTING>, form: u8, e: Element, o: &[u8])
+    ensures { Puts LISTING (tail_most e.logged) (event_tail form (element_read form e o.now).event e) text.old text.new }
 {
     if e.logged {
-        return put_event(buf, at, form, e.ty, o);
+        put_event(text, form, e.ty, o)
+    } else if e.status == numbers::SUCCESSFUL {
+        put_unread(text, e.ty, e.length)
     }
-    if e.status == numbers::SUCCESSFUL {
-        return put_unread(buf, at, e.ty, e.length);
-    }
-    at
 }
 
-fn put_tail(buf: &mut [u8], at: usize, form: u8, kind: Kind, e: Element, o: &[u8]) -> usize
-    ensures { Puts (tail_most e.logged) (tail_text form kind (element_read form e o.now)) at buf.old result buf.new }
+fn put_tail(text: &mut Text<LISTING>, form: u8, kind: Kind, e: Element, o: &[u8])
+    ensures { Puts LISTING (tail_most e.logged) (tail_text form kind (element_read form e o.now)) text.old text.new }
 {
     match kind {
-        Kind::Event => put_event_tail(buf, at, form, e, o),
-        Kind::Diagnostic => put_field(buf, at, b" subs ", e.subs),
+        Kind::Event => put_event_tail(text, form, e, o),
+        Kind::Diagnostic => text.field(b" subs ", e.subs),
     }
 }
 
-fn put_head(buf: &mut [u8], at: usize, kind: Kind, e: Element) -> usize
-    ensures { Puts head_most (head_text kind e) at buf.old result buf.new }
+fn put_head(text: &mut Text<LISTING>, kind: Kind, e: Element)
+    ensures { Puts LISTING head_most (head_text kind e) text.old text.new }
 {
-    let next = put_element_head(buf, at, kind.report_id(), e.token, e.ty);
-    put_field(buf, next, b" status ", e.status)
+    text.element_head(kind.report_id(), e.token, e.ty);
+    text.field(b" status ", e.status);
 }
 
 // The line of an element, with the octets behind its status.
-fn put_element(buf: &mut [u8], at: usize, form: u8, kind: Kind, e: Element, o: &[u8]) -> usize
-    ensures { Puts (report_line_most e.logged) (report_element_line form kind (element_read form e o.now)) at buf.old result buf.new }
+fn put_element(text: &mut Text<LISTING>, form: u8, kind: Kind, e: Element, o: &[u8])
+    ensures { Puts LISTING (report_line_most e.logged) (report_element_line form kind (element_read form e o.now)) text.old text.new }
 {
-    let next = put_head(buf, at, kind, e);
-    let next = put_tail(buf, next, form, kind, e, o);
-    put(buf, next, b"\n")
+    put_head(text, kind, e);
+    put_tail(text, form, kind, e, o);
+    text.put(b"\n");
 }
 
 // ---- a frame
 
 // The line of what stands at a cursor; elements of another ID have none.
-fn put_step(buf: &mut [u8], at: usize, form: u8, s: &[u8], kind: Kind, step: Step) -> usize
+fn put_step(text: &mut Text<LISTING>, form: u8, s: &[u8], kind: Kind, step: Step)
     requires { (step_read (Ok step)).found ≡ true → (step_read (Ok step)).rest + (step_read (Ok step)).element.length ≤ length s.now }
-    ensures { Puts (step_most (step_read (Ok step))) (step_line form s.now kind (step_read (Ok step))) at buf.old result buf.new }
+    ensures { Puts LISTING (step_most (step_read (Ok step))) (step_line form s.now kind (step_read (Ok step))) text.old text.new }
 {
     match step.found {
         Some(f) => {
             let end = f.rest + f.element.length;
-            put_element(buf, at, form, kind, f.element, &s[f.rest..end])
+            put_element(text, form, kind, f.element, &s[f.rest..end]);
         }
-        None => at,
+        None => {}
     }
 }
 
 // The lines of all elements of a frame that is not refused. A loop: each step tells the next cursor.
-fn put_elements(buf: &mut [u8], from: usize, form: u8, s: &[u8], kind: Kind) -> usize
+fn put_elements(text: &mut Text<LISTING>, form: u8, s: &[u8], kind: Kind)
     requires { (is_form form ≡ true) × ((read_elements form s.now kind).refusal.number ≡ 0) }
-    ensures { Puts (lines_most (length s.now)) (report_element_lines form kind (read_elements form s.now kind).elements) from buf.old result buf.new }
+    ensures { Puts LISTING (lines_most (length s.now)) (report_element_lines form kind (read_elements form s.now kind).elements) text.old text.new }
 {
-    let mut at = from;
     let mut cursor = Cursor::first();
     while cursor.at < s.len() {
         let step = cursor.next(form, s, kind).unwrap();
-        at = put_step(buf, at, form, s, kind, step);
+        put_step(text, form, s, kind, step);
         cursor = step.next;
     }
-    at
 }
 
-fn put_listing(buf: &mut [u8], form: u8, destination: [u8; 6], s: &[u8]) -> usize
-    ensures { Puts report_listing_most (frame_listing form destination s.now) 0 buf.old result buf.new }
+fn put_listing(text: &mut Text<LISTING>, form: u8, destination: [u8; 6], s: &[u8])
+    ensures { Puts LISTING report_listing_most (frame_listing form destination s.now) text.old text.new }
 {
     match read_report(form, destination, s) {
         Ok(report) => {
             let action = report.kind.report_action();
-            let next = put_frame(buf, 0, b"report ", action, report.dialog, report.count);
-            put_elements(buf, next, form, s, report.kind)
+            text.frame(b"report ", action, report.dialog, report.count);
+            put_elements(text, form, s, report.kind);
         }
-        Err(refusal) => put_refusal(buf, 0, refusal),
+        Err(refusal) => text.refusal(refusal),
     }
 }
 
-// Reads a report frame of a form for a destination and lists it; the text's length.
-pub fn list_report(form: u8, destination: [u8; 6], s: &[u8], buf: &mut [u8; LISTING]) -> usize
-    ensures text { wrote result buf.new ≡ written (frame_listing form destination s.now) buf.old }
-    ensures within { Within report_listing_most result buf.new }
+// Reads a report frame of a form for a destination and lists it.
+pub fn list_report(form: u8, destination: [u8; 6], s: &[u8]) -> Text<LISTING>
+    ensures text { result ≡ frame_listing form destination s.now }
+    ensures within { length result ≤ report_listing_most }
 {
-    put_listing(buf, form, destination, s)
+    let mut text = Text::new();
+    put_listing(&mut text, form, destination, s);
+    text
 }
 
-fn put_input(buf: &mut [u8], input: &[u8]) -> usize
-    ensures { Puts report_listing_most (input_listing input.now) 0 buf.old result buf.new }
+fn put_input(text: &mut Text<LISTING>, input: &[u8])
+    ensures { Puts LISTING report_listing_most (input_listing input.now) text.old text.new }
 {
     let form = octet(input, 0);
     if !is_form(form) {
-        return put_refusal(buf, 0, Cause::BadRequesterList.at(0));
+        return text.refusal(Cause::BadRequesterList.at(0));
     }
     if input.len() < 7 {
-        return put_refusal(buf, 0, Cause::BadFrameLength.at(0));
+        return text.refusal(Cause::BadFrameLength.at(0));
     }
-    put_listing(buf, form, address_at(input, 1), &input[7..])
+    put_listing(text, form, address_at(input, 1), &input[7..]);
 }
 
 // Lists the input of the program `report`: the form, six octets of destination, then the frame.
-pub fn list_input(input: &[u8], buf: &mut [u8; LISTING]) -> usize
-    ensures text { wrote result buf.new ≡ written (input_listing input.now) buf.old }
-    ensures within { Within report_listing_most result buf.new }
+pub fn list_input(input: &[u8]) -> Text<LISTING>
+    ensures text { result ≡ input_listing input.now }
+    ensures within { length result ≤ report_listing_most }
 {
-    put_input(buf, input)
+    let mut text = Text::new();
+    put_input(&mut text, input);
+    text
 }

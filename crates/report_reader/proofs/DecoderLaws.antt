@@ -1,29 +1,17 @@
 -- Laws of the decoders: what stands behind so many octets; so many from the front; and that fields are read of as many as they have.
 -- Assumes nothing.
-use Rattle.std.proofs.Common.{ℕ, zero, suc, ◌+◌, ◌-◌, ◌≤◌, ◌<◌, min, ◌≡◌, refl, sym, ap, ◌∙◌, Bool, true, false, List, [], ◌∷◌, ◌++◌, append-nil, zero-add, add-zero, arith, leb, eqb, length, get_or, take, drop, length-append, length-drop, drop_of_length-le, take_all, leb-true, leb-false}
+use Rattle.std.proofs.Common.{ℕ, zero, suc, ◌+◌, ◌≤◌, ◌<◌, ◌≡◌, refl, sym, ap, ◌∙◌, List, [], ◌∷◌, ◌++◌, append-nil, zero-add, add-zero, arith, eqb, length, get_or, drop, length-append, length-drop, drop_of_length-le}
 use Rattle.laws.proofs.Choice.{either}
 use Rattle.laws.specs.Buffers.{WrittenBuffer, wrote, put_at}
 use Rattle.laws.proofs.Buffers.{put_at-fits}
 use Rattle.octets.specs.Fields.{octets_at}
-use Rattle.octets.proofs.PlaceLaws.{octets-length, octets_stand}
+use Rattle.octets.proofs.PlaceLaws.{octets-length, octets_stand, octets_part, octets_copied}
 use Rattle.subelements.specs.Subelements.{length_of, body_octet, body_at}
 use Rattle.events.specs.declared.times.Times.{Times}
 use Rattle.events.specs.Transitions.{transition_length, source_of, target_of, took_of, reason_of, result_of, signals_of}
 use Rattle.events.specs.RsnaEvents.{method_length, rsn_length, rsna_target_of, authentication_of, method_of, rsna_result_of, rsn_element_of}
 use Rattle.events.specs.PeerLinks.{peer_link_length, peer_of, class_of, channel_of, power_of, connection_of, peer_status_of}
 use Rattle.report_reader.specs.Decoders.{times_in, body_in, transition_in, rsna_in, peer_link_in}
-
-pub rest-behind : (o : List ℕ) (n from : ℕ) → from ≡ min n (length o) → take (length o - from) (drop from o) ≡ drop n o
-rest-behind o n from e = take_all (length o - from) (drop from o) (omega (arith, length-drop from o)) ∙ go (leb n (length o)) refl
-  where
-    go : (b : Bool) → leb n (length o) ≡ b → drop from o ≡ drop n o
-    go true t =
-        let p = leb-true n (length o) t in
-        let q : from ≡ n = omega arith in
-        ap (λ (k : ℕ). drop k o) q
-    go false t =
-        let p = leb-false n (length o) t in
-        drop_of_length-le o {i = from} (omega arith) ∙ sym (drop_of_length-le o {i = n} (omega arith))
 
 -- ---- octets that agree up to a place
 
@@ -118,3 +106,6 @@ module _ (form : ℕ) (o : List ℕ) (times : Times) (body : List ℕ) (t : time
       let e : (k : ℕ) → k < 19 → get_or (octets_at whole 0 19) k 0 ≡ get_or whole k 0 = first_octet whole 19 in
       let n = method_length (get_or whole 10 0) in
       rw (t, q, p, b, f 6 0 (omega arith), f 4 6 (omega arith), e 10 (omega arith), front_body whole n, e (10 + n) (omega (arith, method_most (get_or whole 10 0))))
+
+-- what the check may use of them
+pub ruleset firsts = (first-length, first-octets, octets_part, octets_copied)

@@ -2,8 +2,8 @@
 -- Assumes nothing.
 use Rattle.std.proofs.Common.{ℕ, suc, ◌+◌, ◌-◌, ◌*◌, ◌≤◌, ◌≡◌, refl, sym, ap, ◌∙◌, Bool, true, false, ◌||◌, List, [], ◌∷◌, ◌++◌, map, append_assoc, append-nil, arith, eqb, ltb, length, get_or, drop, length-append, eqb-true, leb-true, ne_eqb}
 use Rattle.std.proofs.Math.Path.{fun_ext}
-use mathlib.Core.List.{map-append}
-use borrow.Author.Tests.{eqb-false}
+use Rattle.std.proofs.lemmas.List.{map-append}
+use Rattle.std.proofs.lemmas.Bool.{eqb-false}
 use Rattle.laws.specs.Choice.{when◌then◌else◌}
 use Rattle.laws.specs.Members.{All, nil, also, any}
 use Rattle.laws.specs.Buffers.{pieces}

@@ -1,6 +1,6 @@
 -- Laws of the reader: a time is read of the part that it stands in; an event's body is not shorter than its fields; a step that is not refused moves on, and not past the end; its verdict says the rest of it; its outline; where an event stands, an element was found, and how many octets it takes; a turn of the validating loop.
 -- Assumes nothing.
-use borrow.Author.Tests.{eqb-false, not-true, not-false}
+use Rattle.std.proofs.lemmas.Bool.{eqb-false, not-true, not-false}
 use Rattle.laws.specs.Choice.{when◌then◌else◌}
 use Rattle.laws.proofs.Walk.{Rest, start, last, again, done, go_on, stop_refused, stop_end}
 use Rattle.laws.proofs.Choice.{either, apply_if, never}
@@ -164,16 +164,6 @@ module _ (form : ℕ) (s : List ℕ) (kind : Kind) (at : ℕ) where
   pub step_fits : {v : Verdict} → v ≡ verdict_of (step_at form s kind at) → v.found ≡ true → Fits s at v
   step_fits e f = rw e (stands-fits s at (stands form s kind at) (rw e at f))
 
--- a step that is refused at once
-module _ (s : List ℕ) (at number place : ℕ) where
-  pub refused-told : step_of s at (verdict_of (refused_step number place)) ≡ refused_step number place
-  unfolding step_of verdict_of when◌then◌else◌
-  refused-told = refl
-
-  pub refused-fits : {v : Verdict} → v ≡ verdict_of (refused_step number place) → v.found ≡ true → Fits s at v
-  unfolding verdict_of
-  refused-fits e f = never (ap (λ (v : Verdict). v.found) (sym e) ∙ f)
-
 -- ---- outlines: of a step that is refused, or passed over; with no event, or with one; and of a diagnostic
 
 module _ (form : ℕ) (s : List ℕ) (kind : Kind) (at : ℕ) {v : Verdict} where
@@ -327,3 +317,6 @@ module _ (form : ℕ) (s : List ℕ) (kind : Kind) (at : ℕ) (r : CodeRefusal) 
   pub refused_told : verdict_read (Err r) ≡ verdict_of t → step_of s at (verdict_of t) ≡ t → step_read (Err r) ≡ t
   unfolding step_of when◌then◌else◌
   refused_told e same = rw (← e) at same
+
+-- what the check may use of outlines
+pub ruleset outlines = (plain_outline, told_plain, short-event)

@@ -3,7 +3,7 @@
 use Rattle.std.proofs.Common.{ℕ, ◌+◌, ◌-◌, ◌≤◌, ◌<◌, ◌≡◌, refl, sym, ap, ◌∙◌, Bool, true, false, List, [], ◌∷◌, ◌++◌, map, append_assoc, append-nil, eqb, ltb, length, get_or, drop, length-append, le-ltb, ne_eqb, eq-eqb, arith}
 use Rattle.std.proofs.Math.Option.{some}
 use Rattle.std.proofs.Math.ListN.{length-map}
-use mathlib.Core.List.{map-append}
+use Rattle.std.proofs.lemmas.List.{map-append}
 use Rattle.laws.specs.Members.{All}
 use Rattle.laws.specs.Choice.{when◌then◌else◌}
 use Rattle.laws.specs.Buffers.{pieces}

@@ -1,5 +1,7 @@
 // The fields of an event, from the octets behind a report's status: its time fields in a form (0 draft,
 // any other: published), and the event's body. One decoder for each kind, total: octets past the end are 0.
+#![tactic(auto, using(laws::proofs::Choice::choices, crate::proofs::DecoderLaws::firsts), unfolding(octets::specs::Fields::octets_at))]
+
 ghost use Rattle.std.specs.Prelude.{◌≡◌, [], ◌+◌, ◌≤◌, ◌<◌, length, drop};
 ghost use Rattle.octets.specs.Fields.{octets_at};
 ghost use Rattle.octets.specs.Times.{time_at};
@@ -13,7 +15,7 @@ use events::transitions::TRANSITION_LENGTH;
 use events::{
     DRAFT, DRAFT_LENGTH, PUBLISHED_LENGTH, Times, peer_links, rsna_events, time_length, transitions,
 };
-use octets::{copy, least, octet, put};
+use octets::{copy, octet, put};
 use units::TimeUnits;
 
 // A reported transition; the signals are source RCPI, source RSNI, target RCPI and target RSNI. Of an
@@ -64,7 +66,7 @@ const RSNA_FRONT: usize = METHOD_OFFSET + 9;
 fn behind(o: &[u8], n: usize) -> &[u8]
     ensures { result.now ≡ drop n o.now }
 {
-    let from = least(n, o.len());
+    let from = n.min(o.len());
     &o[from..]
 }
 
@@ -141,6 +143,7 @@ fn published_times(o: &[u8]) -> Times
 
 // The time fields in a form. The end is tested before all of them: the length of what they are read of is
 // a constant, here and for the body of each kind.
+#[tactic(auto, using(laws::proofs::Choice::choices, crate::proofs::DecoderLaws::firsts), unfolding(octets::specs::Fields::octets_at, crate::specs::Decoders::times_in))]
 fn times_in(form: u8, o: &[u8]) -> Times
     ensures { result ≡ times_in form o.now }
 {

@@ -1,6 +1,7 @@
 // Report frames, read (document 01, causes 11, 1, 2, then 4, 5, 17, 14 and 7; before them 15, document 02
 // (g): a reader is told the form of the time fields): a frame is validated whole, a cursor hands out its
-// elements, and a decoder for each kind reads an event's octets.
+// elements, and a decoder for each kind reads an event's octets. Functions take the frame and a position in it,
+// not its parts: refusals name positions.
 #![tactic(auto)]
 
 mod decoders;
@@ -27,7 +28,8 @@ use subelements::walk_edges;
 const EVENT_HEAD: usize = 3;
 
 // The fields of a report element: how many octets stand behind its status, how many subelements
-// they are (in a diagnostic), and whether they are an event, which the decoder of its type reads.
+// they are (in a diagnostic), and whether they are an event, which the decoder of its type reads: a flag, since
+// no field here belongs to an event alone.
 #[repr(C)]
 #[derive(Clone, Copy)]
 pub struct Element {
@@ -68,7 +70,7 @@ enum Verdict {
     Logged(usize),
 }
 
-// How far a frame is validated: the next position and the number of elements.
+// How far a frame is validated: the next position and the number of elements, which are not held.
 #[derive(Clone, Copy)]
 struct Walk {
     pub at: usize,
@@ -86,7 +88,7 @@ pub struct Report {
 // ---- the verdict on one element, in two steps: its outline, then what it holds (as one function it
 // would not be inlined into the loop over a frame and into the cursor's step). Form, octets and kind are no
 // struct: with one, a report of 64 events takes 31,798 instructions behind `&self`, and 33,335 by value with no
-// end handed on, for 26,750.
+// end handed on, for 26,750. The end goes beside the length: computed from it, 31,281.
 
 // Has an RSNA event, by the first octet of its EAP method, a body of n octets in a form?
 fn is_rsna_length(form: u8, first: u8, n: usize) -> bool
@@ -99,7 +101,9 @@ fn is_rsna_length(form: u8, first: u8, n: usize) -> bool
     n == bare + RSN_LENGTH
 }
 
-// Has an event of a type a body of n octets in a form?
+// Has an event of a type a body of n octets in a form? A type is a number here and below, since a report may
+// have any octet there.
+#[tactic(auto, using(laws::proofs::Choice::choices), unfolding(crate::specs::Reader::is_event_length))]
 fn is_event_length(form: u8, s: &[u8], at: usize, n: usize, ty: u8) -> bool
     requires { at + 2 + n ≤ length s.now }
     ensures { result ≡ is_event_length form s.now at n ty }
@@ -124,6 +128,7 @@ fn outline_typed(form: u8, s: &[u8], at: usize, n: usize, end: usize) -> Result<
 }
 
 // An event report; one of length 3 has nothing more, whatever its status and type.
+#[tactic(auto, using(laws::proofs::Choice::choices, crate::proofs::Laws::outlines), unfolding(crate::specs::Reader::event_step))]
 fn outline_event(form: u8, s: &[u8], at: usize, n: usize, end: usize) -> Result<Verdict, Refusal>
     requires { (3 ≤ n) × (end ≡ at + 2 + n) × (end ≤ length s.now) }
     ensures { EventOutline form s.now at (verdict_read result) (event_step form s.now at n) }
@@ -142,6 +147,7 @@ fn outline_event(form: u8, s: &[u8], at: usize, n: usize, end: usize) -> Result<
 }
 
 // An element of the frame's own ID, with n octets of body up to its end.
+#[tactic(auto, using(laws::proofs::Choice::choices), unfolding(crate::specs::Reader::own_report_step))]
 fn outline_own(
     form: u8,
     s: &[u8],
@@ -166,6 +172,7 @@ fn outline_own(
 }
 
 // What stands at a position; an event's time and a diagnostic's subelements are not looked at yet.
+#[tactic(auto, using(laws::proofs::Choice::choices), unfolding(crate::specs::Reader::step_at))]
 fn outline_at(form: u8, s: &[u8], kind: Kind, at: usize) -> Result<Verdict, Refusal>
     ensures { Outline form s.now kind at (verdict_read result) (step_at form s.now kind at) }
 {
@@ -181,6 +188,7 @@ fn outline_at(form: u8, s: &[u8], kind: Kind, at: usize) -> Result<Verdict, Refu
 // ---- what the element holds
 
 // Is the draft's time good? It is read of a part of the frame, whose length is then a constant.
+#[tactic(auto, using(laws::proofs::Choice::choices, crate::proofs::Laws::time_part), unfolding(crate::specs::Reader::good_time_at))]
 fn good_time_at(form: u8, s: &[u8], at: usize) -> bool
     requires { at + 9 ≤ length s.now }
     ensures { result ≡ good_time_at form s.now at }
@@ -192,6 +200,7 @@ fn good_time_at(form: u8, s: &[u8], at: usize) -> bool
 }
 
 // An event's time.
+#[tactic(auto, using(laws::proofs::Choice::choices), unfolding(crate::specs::Internal::timed_verdict, crate::specs::Internal::verdict_of))]
 fn validate_time(form: u8, s: &[u8], at: usize, v: Verdict) -> Result<Verdict, Refusal>
     requires { (verdict_given v).logged ≡ true → at + 14 ≤ length s.now }
     ensures { verdict_read result ≡ timed_verdict form s.now at (verdict_given v) }
@@ -208,6 +217,7 @@ fn validate_time(form: u8, s: &[u8], at: usize, v: Verdict) -> Result<Verdict, R
     }
 }
 
+#[tactic(auto, using(laws::proofs::Choice::choices, octets::proofs::RefusalLaws::some_number, crate::proofs::Laws::told_plain), unfolding(crate::specs::Reader::diagnostic_step, crate::specs::Reader::walked_step, crate::specs::Internal::verdict_of))]
 fn validate_diagnostic(s: &[u8], at: usize, end: usize) -> Result<Verdict, Refusal>
     requires { (at + 5 ≤ end) × (end ≤ length s.now) }
     ensures { (n : ℕ) → end ≡ at + 2 + n → verdict_read result ≡ verdict_of (diagnostic_step s.now at n) }
@@ -217,6 +227,7 @@ fn validate_diagnostic(s: &[u8], at: usize, end: usize) -> Result<Verdict, Refus
 }
 
 // One of the frame's own ID.
+#[tactic(auto, using(laws::proofs::Choice::choices), unfolding(crate::specs::Internal::held))]
 fn validate_own(
     form: u8,
     s: &[u8],
@@ -234,7 +245,8 @@ fn validate_own(
     }
 }
 
-// The verdict, by the element's outline.
+// The verdict, by the element's outline: two of its three kinds have an end to go on with.
+#[tactic(auto, using(laws::proofs::Choice::choices), unfolding(crate::specs::Internal::held))]
 fn validate_held(form: u8, s: &[u8], kind: Kind, at: usize, v: Verdict) -> Result<Verdict, Refusal>
     requires { Held s.now at (verdict_given v) }
     ensures { verdict_read result ≡ held form s.now kind at (verdict_given v) }
@@ -249,6 +261,7 @@ fn validate_held(form: u8, s: &[u8], kind: Kind, at: usize, v: Verdict) -> Resul
 // ---- its step, by the verdict
 
 // The fields of an element that was found.
+#[tactic(auto, using(laws::proofs::Choice::choices), unfolding(crate::specs::Internal::found_element))]
 fn element_at(s: &[u8], at: usize, end: usize, subs: usize, logged: bool) -> Found
     requires { (at + 5 ≤ end) × (end ≤ length s.now) }
     ensures { result ≡ record { element = found_element s.now at (record { refusal = no_refusal; found = true; logged = logged; subs = subs; next = end }); rest = at + 5 } }
@@ -266,6 +279,7 @@ fn element_at(s: &[u8], at: usize, end: usize, subs: usize, logged: bool) -> Fou
     }
 }
 
+#[tactic(auto, using(laws::proofs::Choice::choices), unfolding(crate::specs::Internal::step_of, crate::specs::Internal::found_element))]
 fn step_of(s: &[u8], at: usize, v: Verdict) -> Step
     requires { (verdict_given v).found ≡ true → Fits s.now at (verdict_given v) }
     ensures { step_read (Ok result) ≡ step_of s.now at (verdict_given v) }
@@ -298,6 +312,7 @@ impl Cursor {
 
     // What stands at the cursor, in a report frame of a form and a kind. Past the frame's end that is
     // refusal 4.
+    #[tactic(auto, using(laws::proofs::Choice::choices), unfolding(crate::specs::Reader::cursor_step))]
     pub fn next(self, form: u8, s: &[u8], kind: Kind) -> Result<Step, Refusal>
         ensures { step_read result ≡ cursor_step form s.now kind self.at }
     {
@@ -325,6 +340,7 @@ fn counted(w: Walk, next: usize) -> Walk
 }
 
 // Behind what stands at a position.
+#[tactic(auto, using(laws::proofs::Choice::choices), unfolding(crate::specs::Reader::gathered, crate::specs::Internal::verdict_of))]
 fn advance(w: Walk, v: Verdict) -> Walk
     requires { w.count + 1 < 2 ^ 64 }
     ensures { (form : ℕ) (s : List ℕ) (x : Reading) (t : ReaderStep) → walk_kept w ≡ walk_of x → verdict_given v ≡ verdict_of t → walk_kept result ≡ walk_of (gathered form s x t) }
@@ -353,6 +369,7 @@ fn validate(form: u8, s: &[u8], kind: Kind) -> Result<Walk, Refusal>
 }
 
 // A frame of a kind, by its elements.
+#[tactic(auto, using(laws::proofs::Choice::choices, octets::proofs::RefusalLaws::some_number), unfolding(crate::specs::Reader::report_of))]
 fn validated(form: u8, s: &[u8], kind: Kind) -> Result<Report, Refusal>
     ensures { report_read result ≡ report_of kind (get_or s.now 2 0) (read_elements form s.now kind) }
 {
@@ -365,6 +382,7 @@ fn validated(form: u8, s: &[u8], kind: Kind) -> Result<Report, Refusal>
 }
 
 // Validates a whole frame, given its form and its destination.
+#[tactic(auto, using(laws::proofs::Choice::choices, octets::proofs::RefusalLaws::some_number), unfolding(crate::specs::Reader::read_report))]
 pub fn read_report(form: u8, destination: [u8; 6], s: &[u8]) -> Result<Report, Refusal>
     ensures { report_read result ≡ read_report form destination s.now }
 {

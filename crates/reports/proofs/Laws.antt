@@ -11,7 +11,7 @@ use Rattle.octets.specs.Numbers.{successful}
 use Rattle.events.specs.declared.Entry.{Entry}
 use Rattle.events.specs.Times.{time_length}
 use Rattle.events.specs.Log.{body_capacity, body_of, time_of}
-use borrow.Author.Tests.{lt-leb}
+use Rattle.std.proofs.lemmas.Bool.{lt-leb}
 use Rattle.std.specs.Prelude.{Some, None}
 use Rattle.reports.specs.Reports.{report_element, event_element, report_head, fitting, PutWhole}
 

@@ -8,7 +8,7 @@ ghost use Rattle.events.specs.Log.{time_of};
 ghost use Rattle.reports.specs.Reports.{report_head, report_element, event_element, PutWhole};
 
 use events::{BODY_CAPACITY, DRAFT, Entry, time_length};
-use octets::{Kind, least, numbers, put};
+use octets::{Kind, numbers, put};
 
 // The octets of a report element up to its status.
 const HEAD: usize = 5;
@@ -16,60 +16,56 @@ const HEAD: usize = 5;
 // The longest list behind token, type and status.
 const LONGEST_LIST: usize = 252;
 
-// The octets of a report element up to its status, with so many octets behind them.
-fn head_of(kind: Kind, token: u8, ty: u8, status: u8, rest: usize) -> [u8; HEAD]
-    requires { rest ≤ 252 }
-    ensures { result ≡ report_head kind token ty status rest }
-{
-    [kind.report_id(), (3 + rest) as u8, token, ty, status]
+// What an element has up to its status, but for its length.
+#[derive(Clone, Copy)]
+pub struct Head {
+    pub kind: Kind,
+    pub token: u8,
+    pub ty: u8,
+    pub status: u8,
+}
+
+impl Head {
+    // Its octets, with so many behind them.
+    fn octets(self, rest: usize) -> [u8; HEAD]
+        requires { rest ≤ 252 }
+        ensures { result ≡ report_head self.kind self.token self.ty self.status rest }
+    {
+        [
+            self.kind.report_id(),
+            (3 + rest) as u8,
+            self.token,
+            self.ty,
+            self.status,
+        ]
+    }
 }
 
 // A report with octets behind its status; how many octets it has, where it fits.
-fn put_report(
-    buf: &mut [u8],
-    kind: Kind,
-    token: u8,
-    ty: u8,
-    status: u8,
-    rest: &[u8],
-) -> Option<usize>
+fn put_report(buf: &mut [u8], head: Head, rest: &[u8]) -> Option<usize>
     requires { length rest.now ≤ 252 }
-    ensures { PutWhole (report_element kind token ty status rest.now) buf.old result buf.new }
+    ensures { PutWhole (report_element head.kind head.token head.ty head.status rest.now) buf.old result buf.new }
 {
     if buf.len() < HEAD + rest.len() {
         return None;
     }
-    let head = head_of(kind, token, ty, status, rest.len());
-    let behind_head = put(buf, 0, &head);
+    let octets = head.octets(rest.len());
+    let behind_head = put(buf, 0, &octets);
     Some(put(buf, behind_head, rest))
 }
 
 // A report of length 3: Successful with no event, or Incapable.
-pub fn put_plain(buf: &mut [u8], kind: Kind, token: u8, ty: u8, status: u8) -> Option<usize>
-    ensures { PutWhole (report_element kind token ty status []) buf.old result buf.new }
+pub fn put_plain(buf: &mut [u8], head: Head) -> Option<usize>
+    ensures { PutWhole (report_element head.kind head.token head.ty head.status []) buf.old result buf.new }
 {
-    put_report(buf, kind, token, ty, status, &[])
+    put_report(buf, head, &[])
 }
 
 // A report with a list behind its status: a diagnostic's subelements, of which more than 252 octets are not taken.
-pub fn put_list(
-    buf: &mut [u8],
-    kind: Kind,
-    token: u8,
-    ty: u8,
-    status: u8,
-    list: &[u8],
-) -> Option<usize>
-    ensures { PutWhole (report_element kind token ty status (take 252 list.now)) buf.old result buf.new }
+pub fn put_list(buf: &mut [u8], head: Head, list: &[u8]) -> Option<usize>
+    ensures { PutWhole (report_element head.kind head.token head.ty head.status (take 252 list.now)) buf.old result buf.new }
 {
-    put_report(
-        buf,
-        kind,
-        token,
-        ty,
-        status,
-        &list[..least(LONGEST_LIST, list.len())],
-    )
+    put_report(buf, head, &list[..LONGEST_LIST.min(list.len())])
 }
 
 // The time fields of an event in a form, behind the first `at` of a buffer.
@@ -87,13 +83,19 @@ fn put_time(buf: &mut [u8], at: usize, form: u8, entry: Entry) -> usize
 pub fn put_event(buf: &mut [u8], form: u8, token: u8, entry: Entry) -> Option<usize>
     ensures { PutWhole (event_element form token entry) buf.old result buf.new }
 {
-    let n = least(entry.length as usize, BODY_CAPACITY);
+    let n = (entry.length as usize).min(BODY_CAPACITY);
     let rest = time_length(form) + n;
     if buf.len() < HEAD + rest {
         return None;
     }
-    let head = head_of(Kind::Event, token, entry.ty, numbers::SUCCESSFUL, rest);
-    let behind_head = put(buf, 0, &head);
+    let head = Head {
+        kind: Kind::Event,
+        token,
+        ty: entry.ty,
+        status: numbers::SUCCESSFUL,
+    };
+    let octets = head.octets(rest);
+    let behind_head = put(buf, 0, &octets);
     let behind_time = put_time(buf, behind_head, form, entry);
     Some(put(buf, behind_time, &entry.body[..n]))
 }

@@ -5,7 +5,7 @@ use mir.Val.{Val}
 use base.Fml.{Fml}
 use denote.Array.{each}
 use denote.Shadow.{shadow}
-use borrow.Kind.Array.{e_struct}
+use Rattle.laws.proofs.Older.{e_struct}
 use Rattle.requests.specs.contracts.Element.{the_type}
 use Rattle.requests.proofs.Element.TheLaws.{the_laws, the_copy}
 use Rattle.laws.specs.Members.{All, nil, also}

@@ -1,10 +1,11 @@
 -- The laws that the writer's functions cite.
 -- Assumes nothing.
 use Rattle.std.proofs.Math.Seq.{take-append-add}
-use borrow.Rule.Slice.PartMut.{put_mid}
+use Rattle.std.specs.Array.{IsFirstChunk}
+use Rattle.laws.proofs.Older.{put_mid}
 use Rattle.laws.specs.Choice.{when◌then◌else◌}
 use Rattle.laws.specs.Buffers.{onto, pieces, wrote, put_at}
-use Rattle.laws.proofs.Buffers.{length-onto, lent, lent_length, putting_start, putting_at, putting_done}
+use Rattle.laws.proofs.Buffers.{length-onto, lent, lent_tail, lent_length, putting_start, putting_at, putting_done}
 use Rattle.octets.specs.declared.numbers.Kind.{Kind}
 use Rattle.octets.specs.declared.numbers.Kind.TheVariants.{Event, Diagnostic}
 use Rattle.std.proofs.Common.{Result, Ok, Err, ℕ, suc, ◌+◌, ◌-◌, ◌*◌, ◌≤◌, ◌<◌, ◌≡◌, refl, sym, ap, ◌∙◌, true, false, List, [], ◌∷◌, ◌++◌, append_assoc, append-nil, length, get_or, take, drop, length-append, length-take, length-drop, drop_of_length-le, take-suc, take_all, take_at, drop_at, drop-drop, length-take-le, eq-eqb, ne_eqb, lt-ltb, le-ltb, add-one, arith}
@@ -37,9 +38,16 @@ headed h o s a e fits =
     ∙ sym (append_assoc h o (drop (length o) (drop a s)))
     ∙ ap (λ (x : List ℕ). (h ++ o) ++ x) (drop-drop (length o) a s ∙ ap (λ (k : ℕ). drop k s) n)
 
--- the part behind the first a octets
-pub tail_length : (s : List ℕ) (a : ℕ) → a ≤ length s → length (take (length s - a) (drop a s)) ≡ length s - a
-tail_length s a h = length-take-le (length s - a) (drop a s) (omega (arith, length-drop a s))
+-- of an array the k octets behind the first a were lent, and o put at their front
+pub lent_array : (o s y : List ℕ) (a k : ℕ) → length s ≡ a + k → y ≡ onto o (take k (drop a s)) → put_mid a k s y ≡ take a s ++ onto o (drop a s)
+lent_array o s y a k e does =
+    let n : length s - a ≡ k = omega (arith, e) in
+    let t : put_mid a (length s - a) s y ≡ take a s ++ onto o (drop a s) = lent_tail o s y a (omega (arith, e)) (rw n does) in
+    rw n at t
+
+-- the first n octets were lent as an array, and o put at their front
+pub chunk_front : (o s y : List ℕ) (n : ℕ) {front : List ℕ} → IsFirstChunk s front n → length o ≤ n → y ≡ onto o front → y ++ drop n s ≡ onto o s
+chunk_front o s y n {front} is short does = lent [] o s s y 0 n refl refl (omega (arith, is.enough)) short (does ∙ ap (onto o) is.same)
 
 -- ---- conditions
 
@@ -100,9 +108,9 @@ module _ {kind : Kind} {es : List Element} {count : ℕ} {s buf : List ℕ} {at 
   laying_length = ap length l.front ∙ length-onto (elements_octets kind (take i es)) s (omega (arith, l.ends, l.small, l.few, l.room))
 
   module _ (more : i < count) (next : i < element_capacity) where
-    pub laying_fits : 33 ≤ length (take (length buf - at) (drop at buf))
+    pub laying_fits : 33 ≤ length (take (264 - at) (drop at buf))
     laying_fits =
-        omega (arith, l.room, l.small, laying_length, lent_length (elements_octets kind (take i es)) [] s buf [] at (length buf - at) (sym l.ends) l.front (omega (arith, laying_length, l.small, l.room)))
+        omega (arith, l.room, l.small, laying_length, lent_length (elements_octets kind (take i es)) [] s buf [] at (264 - at) (sym l.ends) l.front (omega (arith, laying_length, l.small, l.room)))
 
     taken : take (i + 1) es ≡ take i es ++ (get_or es i past_elements ∷ [])
     taken = rw add-one (take-suc es i past_elements (omega (arith, l.eight)))
@@ -112,8 +120,8 @@ module _ {kind : Kind} {es : List Element} {count : ℕ} {s buf : List ℕ} {at 
     laying_bad b = rw (← l.left, take_next es past_elements count i more (omega (arith, l.eight)), b, l.ends)
 
     pub laying_next : (n : ℕ) (y : List ℕ) → bad_token kind (take i es) (get_or es i past_elements).token ≡ false → n ≡ length (element_octets kind (get_or es i past_elements)) → n ≤ 33
-        → y ≡ onto (element_octets kind (get_or es i past_elements)) (take (length buf - at) (drop at buf))
-        → Laying kind es count s (put_mid at (length buf - at) buf y) (at + n) (i + 1)
+        → y ≡ onto (element_octets kind (get_or es i past_elements)) (take (264 - at) (drop at buf))
+        → Laying kind es count s (put_mid at (264 - at) buf y) (at + n) (i + 1)
     unfolding token_refusal when◌then◌else◌
     laying_next n y b is short does =
         let x : Element = get_or es i past_elements in
@@ -127,7 +135,7 @@ module _ {kind : Kind} {es : List Element} {count : ℕ} {s buf : List ℕ} {at 
           room = l.room;
           ends = sym (ap length all ∙ length-append h (element_octets kind x) ∙ omega (arith, l.ends, is));
           small = omega (arith, l.small);
-          front = lent h (element_octets kind x) s buf y at (length buf - at) (sym l.ends) l.front (omega (arith, lb, l.small, l.room)) (omega (arith, lb, l.small, l.room)) does ∙ ap (λ (o : List ℕ). onto o s) (sym all);
+          front = lent h (element_octets kind x) s buf y at (264 - at) (sym l.ends) l.front (omega (arith, lb, l.small, l.room)) (omega (arith, lb, l.small, l.room)) does ∙ ap (λ (o : List ℕ). onto o s) (sym all);
           left = rw taken (sym (rw (take_next es past_elements count i more (omega (arith, l.eight)), b)) ∙ l.left);
         }
 

@@ -13,6 +13,12 @@ use octets::{Cause, Kind, Refusal, copy, high, low, numbers, put};
 use requests::{ELEMENT_CAPACITY, Element, Request, bad_token, lacks_element, read_request};
 use subelements::{Condition, length_of};
 
+// The octets of an element at most: an event's with its five conditions.
+const LONGEST_ELEMENT: usize = 33;
+
+// The octets of the most elements that a frame has.
+const LONGEST_BODY: usize = ELEMENT_CAPACITY * LONGEST_ELEMENT;
+
 // How many octets of a condition are written.
 fn condition_length(ty: usize, id: usize, c: Condition) -> usize
     ensures { (result ≡ condition_length ty id c) × (result ≤ 8) }
@@ -23,7 +29,7 @@ fn condition_length(ty: usize, id: usize, c: Condition) -> usize
     length_of(ty, id, c.octets[0])
 }
 
-// A condition at the front of a buffer; its length.
+// A condition at the front of a buffer; its length. 0 octets are none: a length, as `length_of` gives it.
 fn put_condition(buf: &mut [u8], ty: usize, id: usize, c: Condition) -> usize
     requires { (id < 5) × (length (condition_octets ty id c) ≤ length buf.old) }
     ensures length { result ≡ length (condition_octets ty id c) }
@@ -53,8 +59,7 @@ fn put_filter(buf: &mut [u8], ty: usize, filter: [Condition; 5]) -> usize
     at
 }
 
-fn put_event(buf: &mut [u8], e: Element) -> usize
-    requires { 33 ≤ length buf.old }
+fn put_event(buf: &mut [u8; LONGEST_ELEMENT], e: Element) -> usize
     ensures length { (result ≡ length (element_octets Kind.Event e)) × (result ≤ 33) }
     ensures put { buf.new ≡ onto (element_octets Kind.Event e) buf.old }
 {
@@ -71,8 +76,7 @@ fn put_event(buf: &mut [u8], e: Element) -> usize
     5 + n
 }
 
-fn put_diagnostic(buf: &mut [u8], e: Element) -> usize
-    requires { 33 ≤ length buf.old }
+fn put_diagnostic(buf: &mut [u8; LONGEST_ELEMENT], e: Element) -> usize
     ensures length { (result ≡ length (element_octets Kind.Diagnostic e)) × (result ≤ 33) }
     ensures put { buf.new ≡ onto (element_octets Kind.Diagnostic e) buf.old }
 {
@@ -93,21 +97,23 @@ fn put_element(buf: &mut [u8], kind: Kind, e: Element) -> usize
     ensures length { (result ≡ length (element_octets kind e)) × (result ≤ 33) }
     ensures put { buf.new ≡ onto (element_octets kind e) buf.old }
 {
+    let Some(front) = buf.first_chunk_mut() else {
+        unreachable!()
+    };
     match kind {
-        Kind::Event => put_event(buf, e),
-        Kind::Diagnostic => put_diagnostic(buf, e),
+        Kind::Event => put_event(front, e),
+        Kind::Diagnostic => put_diagnostic(front, e),
     }
 }
 
 // The elements at the front of a buffer, as they stand behind the header; where a frame of them ends. Where
 // one is refused, the buffer has those before it.
 fn put_elements(
-    buf: &mut [u8],
+    buf: &mut [u8; LONGEST_BODY],
     kind: Kind,
     es: [Element; ELEMENT_CAPACITY],
     count: usize,
 ) -> Result<usize, Refusal>
-    requires { length buf.old ≡ 264 }
     ensures answer { written result ≡ elements_answer kind es count }
     ensures fits { (written result).length ≤ 267 }
     ensures put { (written result).refusal.number ≡ 0 → buf.new ≡ onto (elements_octets kind (take count es)) buf.old }
@@ -126,7 +132,8 @@ fn put_elements(
     Ok(3 + at)
 }
 
-// Writes a request frame at the front of a buffer, or nothing where it is refused; the frame's length.
+// Writes a request frame at the front of a buffer, or nothing where it is refused; the frame's length. The
+// first count elements: an array and a count, as C hands them in.
 pub fn write_request(
     kind: Kind,
     dialog: u8,
@@ -142,7 +149,7 @@ pub fn write_request(
     if dialog == 0 {
         return Err(Cause::ZeroDialogToken.at(0));
     }
-    let mut body = [0u8; 264];
+    let mut body = [0u8; LONGEST_BODY];
     let length = put_elements(&mut body, kind, elements, count)?;
     if lacks_element(kind, count) {
         return Err(Cause::NoElement.at(0));

@@ -10,7 +10,7 @@ use Rattle.requesters.specs.declared.Requester.{Requester}
 
 -- no request is outstanding, and none has left anything
 abbrev pub blank_events : EventRequest
-blank_events = record { outstanding = false; dialog = 0; given = 0; mark = 0; below = 0; first = 0; count = 0; elements = blank_elements }
+blank_events = record { outstanding = false; dialog = 0; mark = 0; progress = record { first = 0; given = 0; below = 0 }; count = 0; elements = blank_elements }
 
 abbrev pub blank_diagnostic : Diagnostic
 blank_diagnostic = record { token = 0; ty = 0; timeout = 0 }

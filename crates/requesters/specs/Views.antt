@@ -23,11 +23,8 @@ left first count xs = drop first (take count xs)
 unfoldable pub events_at : CodeEventRequest → Progress → EventRequest
 events_at r p = record { dialog = r.dialog; mark = r.mark; given = p.given; below = p.below; elements = left p.first r.count r.elements }
 
-abbrev pub progress_of : CodeEventRequest → Progress
-progress_of r = record { first = r.first; given = r.given; below = r.below }
-
 unfoldable pub view_events : CodeEventRequest → Option EventRequest
-view_events r = when r.outstanding then some (events_at r (progress_of r)) else none
+view_events r = when r.outstanding then some (events_at r r.progress) else none
 
 unfoldable pub view_diagnostics : CodeDiagnosticRequest → Option DiagnosticRequest
 view_diagnostics r =

@@ -1,17 +1,16 @@
 // Diagnostic requests: the late drop, and what an accepted frame leaves.
-ghost use Rattle.std.specs.Prelude.{◌≡◌, ◌≤◌};
+ghost use Rattle.std.specs.Prelude.{◌≡◌};
 ghost use Rattle.units.specs.Time.{elapsed_since};
-ghost use Rattle.requests.specs.Elements.{element_capacity};
 ghost use Rattle.requests.specs.Requests.{accepted_request};
 ghost use Rattle.model.specs.Diagnostics.{diagnostic_treatment, is_late, on_time, unless_over, drop_late, is_cancel, holds_cancel, diagnostic_of, diagnostics_of};
 ghost use Rattle.requesters.specs.Views.{left, view_diagnostics};
 ghost use Rattle.requesters.specs.Internal.{listed_elements, renews_diagnostics, new_diagnostics};
 ghost use Rattle.requesters.specs.Blank.{blank_diagnostics};
 
-use crate::DiagnosticRequest;
 use crate::dialogs::is_repeated;
+use crate::{DiagnosticRequest, Diagnostics};
 use model::{Diagnostic, Treatment};
-use octets::{Kind, least};
+use octets::Kind;
 use requests::{ELEMENT_CAPACITY, Element, Request};
 use units::{Elapsed, Milliseconds};
 
@@ -33,13 +32,6 @@ const BLANK: Diagnostic = Diagnostic {
     timeout: 0,
 };
 
-// The first count of a request's elements; the other places are free.
-#[derive(Clone, Copy)]
-struct Diagnostics {
-    pub count: usize,
-    pub elements: [Diagnostic; ELEMENT_CAPACITY],
-}
-
 fn is_late(now: Elapsed, accepted: Elapsed, x: Diagnostic) -> bool
     ensures { result ≡ is_late elapsed_since now.0 accepted.0 x }
 {
@@ -49,7 +41,6 @@ fn is_late(now: Elapsed, accepted: Elapsed, x: Diagnostic) -> bool
 
 // A request of these elements; with none it is over.
 fn request_of(dialog: u8, accepted: Elapsed, k: Diagnostics) -> DiagnosticRequest
-    requires { k.count ≤ element_capacity }
     ensures { view_diagnostics result ≡ unless_over dialog accepted.0 (listed_elements k) }
 {
     let elements = k.elements;
@@ -65,12 +56,12 @@ fn request_of(dialog: u8, accepted: Elapsed, k: Diagnostics) -> DiagnosticReques
 
 // Those on time of the elements left.
 fn kept(d: DiagnosticRequest, now: Elapsed) -> Diagnostics
-    ensures { (listed_elements result ≡ on_time elapsed_since now.0 d.accepted.0 (left d.first d.count d.elements)) × (result.count ≤ element_capacity) }
+    ensures { listed_elements result ≡ on_time elapsed_since now.0 d.accepted.0 (left d.first d.count d.elements) }
 {
     let accepted = d.accepted;
     let all = d.elements;
     let first = d.first as usize;
-    let end = least(d.count as usize, ELEMENT_CAPACITY);
+    let end = (d.count as usize).min(ELEMENT_CAPACITY);
     let mut elements = all;
     let mut count: usize = 0;
     for i in first..end {
@@ -94,6 +85,7 @@ pub fn on_time(d: DiagnosticRequest, now: Elapsed) -> DiagnosticRequest
     request_of(d.dialog, accepted, kept(d, now))
 }
 
+// A function: neither type is of this crate, so no `From` can stand here.
 fn diagnostic_of(x: Element) -> Diagnostic
     ensures { result ≡ diagnostic_of x }
 {
@@ -107,10 +99,10 @@ fn diagnostic_of(x: Element) -> Diagnostic
 // The elements that a frame asks for, from the last to the first: in the other order the compiler
 // unrolls the loop and copies each element of the frame by itself.
 fn diagnostics_of(q: Request) -> Diagnostics
-    ensures { (listed_elements result ≡ diagnostics_of (accepted_request q)) × (result.count ≤ element_capacity) }
+    ensures { listed_elements result ≡ diagnostics_of (accepted_request q) }
 {
     let asked = q.elements;
-    let end = least(q.count, ELEMENT_CAPACITY);
+    let end = q.count.min(ELEMENT_CAPACITY);
     let mut elements = [BLANK; ELEMENT_CAPACITY];
     for i in (0..end).rev() {
         elements[i] = diagnostic_of(asked[i]);
@@ -132,7 +124,7 @@ fn asks_cancel(q: Request) -> bool
     ensures { result ≡ holds_cancel (diagnostics_of (accepted_request q)) }
 {
     let asked = q.elements;
-    let end = least(q.count, ELEMENT_CAPACITY);
+    let end = q.count.min(ELEMENT_CAPACITY);
     asked[..end].iter().any(|x| cancels(*x))
 }
 
@@ -151,19 +143,19 @@ pub fn blank_diagnostics() -> DiagnosticRequest
 }
 
 // Does a frame of diagnostics change what is outstanding: by a Cancel, or as no repetition?
-fn cancels_or_opens(q: Request, outstanding: bool, current: u8) -> bool
-    ensures { result ≡ renews_diagnostics (accepted_request q) outstanding current Kind.Diagnostic }
+fn cancels_or_opens(q: Request, d: DiagnosticRequest) -> bool
+    ensures { result ≡ renews_diagnostics (accepted_request q) d.outstanding d.dialog Kind.Diagnostic }
 {
-    asks_cancel(q) || !is_repeated(outstanding, current, q.dialog)
+    asks_cancel(q) || !is_repeated(d.outstanding, d.dialog, q.dialog)
 }
 
 // Does an accepted frame change what is outstanding?
-pub fn renews_diagnostics(q: Request, outstanding: bool, current: u8) -> bool
-    ensures { result ≡ renews_diagnostics (accepted_request q) outstanding current q.kind }
+pub fn renews_diagnostics(q: Request, d: DiagnosticRequest) -> bool
+    ensures { result ≡ renews_diagnostics (accepted_request q) d.outstanding d.dialog q.kind }
 {
     match q.kind {
         Kind::Event => false,
-        Kind::Diagnostic => cancels_or_opens(q, outstanding, current),
+        Kind::Diagnostic => cancels_or_opens(q, d),
     }
 }
 

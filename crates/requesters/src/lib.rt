@@ -1,6 +1,9 @@
 // One requester (document 01: a console), and what frames, the clock and the log make of its requests.
 #![tactic(auto)]
 
+ghost use Rattle.std.specs.Prelude.{◌≤◌};
+ghost use Rattle.requests.specs.Elements.{element_capacity};
+
 mod diagnostic_requests;
 mod dialogs;
 mod event_requests;
@@ -14,25 +17,9 @@ use octets::Refusal;
 use requests::{ELEMENT_CAPACITY, Element};
 use units::Elapsed;
 
-// An event request, where outstanding: a flag beside its fields, since C lends this memory. Its elements left are those from first to count; the front
-// one gave so many events, and its next one is below the place below. The log's first mark
-// places were logged before acceptance. Places outside first to count are free. Counts are one octet
-// each: as words they would make a station larger by a fortieth, which every call copies.
-#[repr(C)]
-#[derive(Clone, Copy)]
-pub struct EventRequest {
-    pub outstanding: bool,
-    pub dialog: u8,
-    pub given: u8,
-    pub mark: u8,
-    pub below: u8,
-    pub first: u8,
-    pub count: u8,
-    pub elements: [Element; ELEMENT_CAPACITY],
-}
-
 // How far an event request has come: its first element left, how many events that one gave, and
 // below which place of the log its next one is.
+#[repr(C)]
 #[derive(Clone, Copy)]
 pub struct Progress {
     pub first: u8,
@@ -40,8 +27,23 @@ pub struct Progress {
     pub below: u8,
 }
 
+// An event request, where outstanding (a flag, since C lends this memory and Rattle gives C no enum). Its
+// elements left are those from progress.first to count; the other places are free. The log's first mark places
+// were logged before acceptance. Counts are one octet each: as words they would make a station larger by a
+// fortieth, which every call copies.
+#[repr(C)]
+#[derive(Clone, Copy)]
+pub struct EventRequest {
+    pub outstanding: bool,
+    pub dialog: u8,
+    pub mark: u8,
+    pub progress: Progress,
+    pub count: u8,
+    pub elements: [Element; ELEMENT_CAPACITY],
+}
+
 // A diagnostic request, where outstanding, and the time of its acceptance. Its elements left are
-// those from first to count; the other places are free.
+// those from first to count; the other places are free. A flag and counts, as an event request has them.
 #[repr(C)]
 #[derive(Clone, Copy)]
 pub struct DiagnosticRequest {
@@ -51,6 +53,15 @@ pub struct DiagnosticRequest {
     pub elements: [Diagnostic; ELEMENT_CAPACITY],
     pub outstanding: bool,
     pub dialog: u8,
+}
+
+// The elements that a diagnostic request opens with, or those that the late drop leaves of one: the first count
+// (no Vec: no heap).
+#[derive(Clone, Copy)]
+pub(crate) struct Diagnostics {
+    pub count: usize,
+    pub elements: [Diagnostic; ELEMENT_CAPACITY],
+    ghost few: { count ≤ element_capacity },
 }
 
 // A requester, with the form that it follows (document 02 (g)) and at most one request of each kind.
@@ -63,7 +74,7 @@ pub struct Requester {
     pub diagnostics: DiagnosticRequest,
 }
 
-// The answer to a call.
+// The answer to a call. No Result: Accepted and Nothing are neither a value nor an error.
 #[derive(Clone, Copy)]
 pub enum Answer {
     Accepted,

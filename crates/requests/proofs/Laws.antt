@@ -1,11 +1,12 @@
 -- Laws of the walk over elements: the number of subelements and of elements, tokens, and a turn of the walk's loop.
 -- Assumes nothing.
-use Rattle.std.proofs.Common.{ℕ, ◌+◌, ◌-◌, ◌≤◌, ◌<◌, ◌≡◌, refl, ap, ◌∙◌, Bool, true, false, List, ltb, length, get_or, set, take, drop, length-take, length-set, drop_of_length-le, eq-eqb, ne_eqb, eqb-true, leb-false, le-leb, lt-ltb, le-ltb, arith}
-use borrow.Author.Tests.{eqb-false, lt-leb, not-true, not-false}
+use Rattle.std.proofs.Common.{ℕ, ◌+◌, ◌-◌, ◌≤◌, ◌<◌, ◌≡◌, refl, ap, ◌∙◌, Bool, true, false, List, ltb, length, get_or, set, take, drop, length-take, length-set, length-drop, take_all, drop_of_length-le, eq-eqb, ne_eqb, eqb-true, leb-false, le-leb, lt-ltb, le-ltb, arith}
+use Rattle.std.proofs.lemmas.Bool.{eqb-false, lt-leb, not-true, not-false}
 use Rattle.laws.specs.Members.{any}
 use Rattle.laws.specs.Choice.{when◌then◌else◌}
 use Rattle.laws.proofs.Choice.{either, never}
 use Rattle.laws.proofs.Walk.{Rest, start, last, again, done, go_on, stop_refused, stop_end, keeps_while, keeps, and_first}
+use Rattle.std.proofs.lemmas.List.{get_or-drop}
 use Rattle.laws.proofs.Arrays.{take_next}
 use Rattle.octets.specs.declared.numbers.Kind.{Kind}
 use Rattle.octets.specs.declared.numbers.Kind.TheVariants.{Event, Diagnostic}
@@ -18,7 +19,7 @@ use Rattle.subelements.specs.declared.Condition.{Condition}
 use Rattle.subelements.specs.Subelements.{walked, refused_walk, past, whole_step, subelement_step, tables, walk, Subelements}
 use Rattle.subelements.proofs.Laws.{walk-at_end}
 use Rattle.requests.specs.declared.Element.{Element}
-use Rattle.requests.specs.Elements.{element_capacity, past_elements, least_body, table_of, subelements_of, element_of, blank_elements, has_token, bad_token, ElementWalk, started, refused_elements, with_element, own_request_step, element_step, more_elements, walk_elements}
+use Rattle.requests.specs.Elements.{element_capacity, past_elements, least_body, limit_at, timeout_at, table_of, subelements_of, element_of, blank_elements, has_token, bad_token, ElementWalk, started, refused_elements, with_element, own_request_step, element_step, more_elements, walk_elements}
 use Rattle.requests.specs.Internal.{subelements_start}
 use Rattle.requests.specs.Requests.{refused_request, lacks_element, request_of, request_kind, header_cause, read_request, Request}
 
@@ -67,6 +68,18 @@ subelements-from s Event at end = go (ltb (get_or s (at + 3) 0) tables)
     go true = refl
     go false = walk-at_end s ty end
 subelements-from s Diagnostic at end = refl
+
+-- the octets from a position on
+rest_of : (s : List ℕ) (at : ℕ) → take (length s - at) (drop at s) ≡ drop at s
+rest_of s at = take_all (length s - at) (drop at s) (omega (arith, length-drop at s))
+
+-- an element in the octets from its own on
+pub element_from : (s : List ℕ) (kind : Kind) (at : ℕ) (subs : Subelements) → element_of (take (length s - at) (drop at s)) kind 0 subs ≡ element_of s kind at subs
+element_from s kind at subs = rw (rest_of s at, get_or-drop at s 2 0, get_or-drop at s 3 0) (by_kind kind)
+  where
+    by_kind : (k : Kind) → record { token = get_or s (at + 2) 0; ty = get_or s (at + 3) 0; limit = limit_at (drop at s) k 0; subs = subs.count; timeout = timeout_at (drop at s) k 0; filter = subs.filter } ≡ element_of s k at subs
+    by_kind Event = rw (get_or-drop at s 4 0)
+    by_kind Diagnostic = let n : at + 4 + 1 ≡ at + 5 = omega arith in rw (get_or-drop at s 4 0, get_or-drop at s 5 0, n)
 
 pub subelements_few : (s : List ℕ) (kind : Kind) (at end : ℕ) → end ≤ at + 257 → (subelements_of s kind at end).count < 256
 unfolding subelements_of

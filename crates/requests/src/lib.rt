@@ -1,5 +1,5 @@
 // Request frames (document 01, "Frames and elements", and causes 1 to 10 of its table): the fields
-// and the reader.
+// and the reader. Functions take the frame and a position in it, not its parts: refusals name positions.
 #![tactic(auto)]
 
 ghost use Rattle.std.specs.Prelude.{◌≡◌, ◌+◌, ◌≤◌, ◌<◌, length, get_or, take};
@@ -51,43 +51,32 @@ fn least_body(kind: Kind) -> usize
     }
 }
 
-fn limit_at(s: &[u8], kind: Kind, at: usize) -> u8
-    requires { at < 2304 }
-    ensures { result ≡ limit_at s.now kind at }
+fn limit_of(x: &[u8], kind: Kind) -> u8
+    ensures { result ≡ limit_at x.now kind 0 }
 {
     match kind {
-        Kind::Event => octet(s, at + 4),
+        Kind::Event => octet(x, 4),
         Kind::Diagnostic => 0,
     }
 }
 
-fn timeout_at(s: &[u8], kind: Kind, at: usize) -> u16
-    requires { at < 2304 }
-    ensures { result ≡ timeout_at s.now kind at }
+fn timeout_of(x: &[u8], kind: Kind) -> u16
+    ensures { result ≡ timeout_at x.now kind 0 }
 {
     match kind {
         Kind::Event => 0,
-        Kind::Diagnostic => pair_at(s, at + 4),
+        Kind::Diagnostic => pair_at(x, 4),
     }
 }
 
-// Where the subelements of an event start: at the element's end where its type has none that are read.
-fn event_start(s: &[u8], at: usize, end: usize) -> usize
-    requires { at < 2304 }
-    ensures { result ≡ subelements_start s.now Kind.Event at end }
-{
-    if size(s, at + 3) < TABLES {
-        return at + 5;
-    }
-    end
-}
-
+// Where the subelements of the element at a position start: at its end where its type has none that are read.
 fn subelements_start(s: &[u8], kind: Kind, at: usize, end: usize) -> usize
     requires { at < 2304 }
     ensures { result ≡ subelements_start s.now kind at end }
 {
     match kind {
-        Kind::Event => event_start(s, at, end),
+        Kind::Event if size(s, at + 3) < TABLES => at + 5,
+        Kind::Event => end,
         Kind::Diagnostic => at + 6,
     }
 }
@@ -113,17 +102,18 @@ fn subelements_of(s: &[u8], kind: Kind, at: usize, end: usize) -> Result<Subelem
     walk(s, ty, subelements_start(s, kind, at, end), end)
 }
 
-fn element_of(s: &[u8], kind: Kind, at: usize, subs: Subelements) -> Element
-    requires { (at < 2304) × (subs.count < 256) }
-    ensures { result ≡ element_of s.now kind at (accepted_walk subs) }
+// The element at the front of x.
+fn element_of(x: &[u8], kind: Kind, subs: Subelements) -> Element
+    requires { subs.count < 256 }
+    ensures { result ≡ element_of x.now kind 0 (accepted_walk subs) }
 {
     let filter = subs.filter;
     Element {
-        token: octet(s, at + 2),
-        ty: octet(s, at + 3),
-        limit: limit_at(s, kind, at),
+        token: octet(x, 2),
+        ty: octet(x, 3),
+        limit: limit_of(x, kind),
         subs: subs.count as u16,
-        timeout: timeout_at(s, kind, at),
+        timeout: timeout_of(x, kind),
         filter,
     }
 }
@@ -213,7 +203,7 @@ fn read_elements(s: &[u8], kind: Kind) -> Result<Request, Refusal>
             return Err(Cause::BadElementToken.at(at));
         }
         let subs = subelements_of(s, kind, at, end)?;
-        elements[n] = element_of(s, kind, at, subs);
+        elements[n] = element_of(&s[at..], kind, subs);
         n += 1;
     }
     if lacks_element(kind, n) {
@@ -269,5 +259,5 @@ pub fn read_element(s: &[u8]) -> Result<Element, Refusal>
         return Err(Cause::BadElementToken.at(0));
     }
     let subs = subelements_of(s, Kind::Event, 0, end)?;
-    Ok(element_of(s, Kind::Event, 0, subs))
+    Ok(element_of(s, Kind::Event, subs))
 }

@@ -7,7 +7,7 @@ ghost use Rattle.station.specs.Internal.{ticked_station};
 ghost use Rattle.station.specs.Views.{view, view_outcome};
 
 use crate::outcomes::accepted_with;
-use crate::requester_lists::tick_requesters;
+use crate::requester_lists::late_dropped;
 use crate::timers::advanced;
 use crate::{Outcome, Station};
 use units::Milliseconds;
@@ -20,7 +20,7 @@ pub(crate) fn ticked(g: Station, reading: Milliseconds) -> Station
     let timer = advanced(g.timer, reading);
     Station {
         timer,
-        requesters: tick_requesters(g.requesters, g.count, timer.now),
+        requesters: late_dropped(g.requesters, g.count, timer.now),
         ..g
     }
 }

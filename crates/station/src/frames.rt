@@ -53,10 +53,10 @@ fn renewed(r: Requester, q: Request, logged: u8, now: Elapsed) -> Requester
     ensures { (log : List Entry) → logged ≡ length log → view_requester result ≡ take_kind now.0 log (accepted_request q) (view_requester r) q.kind }
 {
     let mut x = r;
-    if renews_events(q, r.events.outstanding, r.events.dialog) {
+    if renews_events(q, r.events) {
         x.events = new_events(q, logged);
     }
-    if renews_diagnostics(q, r.diagnostics.outstanding, r.diagnostics.dialog) {
+    if renews_diagnostics(q, r.diagnostics) {
         x.diagnostics = new_diagnostics(q, now);
     }
     x
@@ -73,10 +73,11 @@ fn take_request(
     ensures { view_outcome (changed_outcome g result) [] ≡ request_call destination source (request_read read) (view g) }
 {
     let timer = g.timer;
-    let i = find(g.requesters, g.count, source);
-    let found = i < g.count.min(REQUESTER_CAPACITY);
-    let at = i.min(REQUESTER_LAST);
+    let end = g.count.min(REQUESTER_CAPACITY);
     let mut requesters = g.requesters;
+    let i = find(&requesters[..end], source);
+    let found = i < end;
+    let at = i.min(REQUESTER_LAST);
     let answer = match admit(destination, found, read) {
         Ok(q) => {
             requesters[at] = renewed(requesters[at], q, logged_in(g.log), timer.now);

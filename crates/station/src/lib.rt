@@ -2,6 +2,7 @@
 // on it.
 #![tactic(auto)]
 
+// Calls have the parameters that C hands in, as they come.
 mod clock;
 mod explaining;
 mod frames;
@@ -18,7 +19,7 @@ use model::REQUESTER_CAPACITY;
 use requesters::{Answer, Requester};
 use units::{Elapsed, Milliseconds};
 
-// The time of the latest call, and its reading, where one was made (started).
+// The time of the latest call, and its reading, where one was made (started: a flag, since C lends this memory).
 #[repr(C)]
 #[derive(Clone, Copy)]
 pub struct Timer {
@@ -28,8 +29,8 @@ pub struct Timer {
 }
 
 // A station: its timer, its identity's first length octets (0: it has none), its log, and its first
-// count requesters. The other requesters' places have no effect; setup, a move and a network change
-// blank them.
+// count requesters: counts, since C lends this memory. The other requesters' places have no effect; setup, a move
+// and a network change blank them.
 #[repr(C)]
 #[derive(Clone, Copy)]
 pub struct Station {

@@ -10,7 +10,8 @@ use crate::{Changed, Outcome, Station};
 use octets::Cause;
 use requesters::{Answer, Requester, Served};
 
-// The answer to a call of the station itself, by whether it is refused.
+// The answer to a call of the station itself, by whether it is refused. No `From`: that the place is 0 holds of
+// these calls alone.
 pub(crate) fn answer_of(check: Result<(), Cause>) -> Answer
     ensures { view_answer result ≡ answer_to (refused (number_unless check) 0) }
 {

@@ -1,6 +1,6 @@
-// Standard input and output, as the programs here use them: octets into an array, and a text out of
-// one. A read that fails is the end of the input, and what can't be written is let go, so that what a
-// program says of its input never depends on its output.
+// Standard input and output, as the programs here use them: octets into an array, and texts. A read
+// that fails is the end of the input, and what can't be written is let go, so that what a program says of
+// its input never depends on its output.
 #![tactic(auto)]
 
 ghost use Rattle.std.specs.Prelude.{◌≤◌, length};
@@ -26,17 +26,25 @@ pub fn read_full(rt: &HostRuntime, buf: &mut [u8]) -> usize
     done
 }
 
-// A text to standard output.
-pub fn write_all(rt: &HostRuntime, text: &[u8]) {
-    let _ = io::writer(rt).write_all(text);
+// Octets to standard output.
+pub fn write_all(rt: &HostRuntime, octets: &[u8]) {
+    let _ = io::writer(rt).write_all(octets);
 }
 
-// A text that is put into an array with room for it, to standard output; `put` answers its length.
-pub fn print<A: AsSlice<u8> + Drop, F: FnOnce(&mut A) -> usize>(rt: &HostRuntime, room: A, put: F)
-    requires { F.IsAlwaysCallable put }
+// A text to standard output.
+pub fn print<T: AsSlice<u8> + Drop>(rt: &HostRuntime, text: T) {
+    write_all(rt, text.as_slice());
+}
+
+// Prints what a program says of its standard input, of which it reads as many octets as there is room for.
+pub fn print_for_input<const N: usize, T: AsSlice<u8> + Drop, F: FnOnce(&[u8]) -> T>(
+    rt: &HostRuntime,
+    room: [u8; N],
+    text: F,
+)
+    requires { F.IsAlwaysCallable text }
 {
-    let mut text = room;
-    let length = put(&mut text);
-    let octets = text.as_slice();
-    write_all(rt, &octets[..length.min(octets.len())]);
+    let mut input = room;
+    let n = read_full(rt, &mut input);
+    print(rt, text(&input[..n]));
 }

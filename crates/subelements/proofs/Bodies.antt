@@ -47,3 +47,6 @@ module _ (s : List ℕ) (at from n : ℕ) (e : from ≡ min at (length s)) where
   pub body_from : body_at s from n ≡ body_at s at n
   unfolding body_at
   body_from = rw (octet_from 0, octet_from 1, octet_from 2, octet_from 3, octet_from 4, octet_from 5, octet_from 6, octet_from 7)
+
+-- what the check may use of the code that fills the places
+pub ruleset bodies = (body_from, get_or-eq_default)

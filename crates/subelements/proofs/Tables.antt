@@ -2,7 +2,7 @@
 -- Assumes nothing.
 use Rattle.std.proofs.Common.{ℕ, zero, suc, ◌≤◌, ◌<◌, ◌≡◌, refl, ap, ◌∙◌, Bool, true, false, ◌&&◌, List, [], not-suc-le-zero, arith, leb, ltb, eqb, get_or, leb-true, ltb-true, ltb-false, eqb-true}
 use Rattle.std.proofs.Math.ListN.{get_or-eq_default}
-use borrow.Author.Tests.{eqb-false}
+use Rattle.std.proofs.lemmas.Bool.{eqb-false}
 use Rattle.laws.proofs.Choice.{either}
 use Rattle.laws.proofs.Walk.{and_first, and_second}
 use Rattle.subelements.specs.declared.Length.{Length}

@@ -1,6 +1,6 @@
 // The subelements of one element (document 01, "Frames and elements", and causes 7 and 8 of its
 // table): the table of lengths, and the one walker that reads it.
-#![tactic(auto)]
+#![tactic(auto, using(laws::proofs::Choice::choices, crate::proofs::Bodies::bodies), unfolding(crate::specs::Subelements::length_of, crate::specs::Subelements::body_octet, crate::specs::Subelements::body_at))]
 
 ghost use Rattle.std.specs.Prelude.{◌≡◌, ◌≤◌, length};
 ghost use Rattle.octets.specs.Refusals.{no_refusal};
@@ -92,7 +92,8 @@ fn row_of(ty: usize, id: usize) -> Length
     LENGTHS[ty][id]
 }
 
-// The body length of an ID of a type's table, by the body's first octet; 0 where there is none.
+// The body length of an ID of a type's table, by the body's first octet; 0 where there is none, as in a Length.
+// Type and ID are the table's row and column.
 pub fn length_of(ty: usize, id: usize, first: u8) -> usize
     ensures { result ≡ length_of ty id first }
 {

@@ -2,9 +2,8 @@
 -- Assumes nothing.
 use Rattle.std.proofs.Common.{ℕ, zero, suc, ◌+◌, ◌-◌, ◌/◌, ◌%◌, ◌^◌, ◌≤◌, ◌<◌, ◌≡◌, sym, ◌∙◌, ap, true, false, ◌&&◌, List, [], ◌∷◌, ◌++◌, arith, div-lt_iff_lt-mul, pow-suc, eqb, leb, length, drop, set, length-append, length-set, drop-cons, get_or-set_same, drop-set-lt, eq-eqb, le-leb}
 use Rattle.laws.specs.Choice.{when◌then◌else◌}
-use Rattle.laws.specs.Buffers.{wrote, put_at}
 use Rattle.laws.proofs.Choice.{either}
-use Rattle.texts.specs.Text.{digit, spell, decimal, named, PutsWhole}
+use Rattle.texts.specs.Text.{digit, spell, decimal, named, PutsWhole, put_whole}
 
 -- the digit in front of a text that is spelt from its end, place by place
 pub spelt : {A : Type 0} (text : List A) (i : ℕ) (d z : A) → 0 < i → i ≤ length text → drop (i - 1) (set text (i - 1) d) ≡ d ∷ drop i text
@@ -65,7 +64,7 @@ decimal-length zero least n small some few = absurd (omega arith)
 decimal-length (suc k) least n small some few = omega (arith, spell-length 20 k least n [] small few)
 
 -- a number behind a name, written
-pub named_put : (k n at m : ℕ) (name s y : List ℕ) → n < 10 ^ k → 0 < k → wrote m y ≡ put_at (name ++ decimal 1 n) at s → PutsWhole (length name + k) (named name n) at s m y
+pub named_put : (room k n : ℕ) (name s y : List ℕ) → n < 10 ^ k → 0 < k → y ≡ put_whole room (name ++ decimal 1 n) s → PutsWhole room (length name + k) (named name n) s y
 unfolding named
-named_put k n at m name s y small some e =
+named_put room k n name s y small some e =
     record { short = omega (arith, length-append name (decimal 1 n), decimal-length k 1 n small some (omega arith)); does = e }

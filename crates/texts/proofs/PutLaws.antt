@@ -1,109 +1,88 @@
 -- Laws of texts put one behind the other: parts that are written so are the whole, written at once.
 -- Assumes nothing.
-use Rattle.std.proofs.Common.{ℕ, ◌+◌, ◌*◌, ◌≤◌, ◌<◌, ◌≡◌, refl, sym, ap, ◌∙◌, List, [], ◌∷◌, ◌++◌, append_assoc, append-nil, length, get_or, take, drop, length-append, take-append-drop, drop-drop, length-take-le, take_at, take-suc, take_all, add-one, zero-add, mul-le-mul_left, arith}
-use Rattle.laws.specs.Buffers.{onto, pieces, WrittenBuffer, wrote, put_at}
-use Rattle.laws.proofs.Buffers.{put_at-fits, Putting, putting_at, putting_length, putting_done, putting_end}
+use Rattle.std.proofs.Common.{refl, Result, Ok, Err, IsOk, OnOk, OnErr, ◌↔◌, ℕ, ◌+◌, ◌*◌, ◌≤◌, ◌<◌, ◌≡◌, sym, ap, ◌∙◌, List, [], ◌∷◌, ◌++◌, append_assoc, append-nil, length, get_or, take, length-append, take-suc, add-one, arith, le-leb}
+use Rattle.std.proofs.lemmas.Bool.{lt-leb}
+use Rattle.arrayvec.specs.ArrayVec.{ArrayVec}
+use Rattle.laws.specs.Choice.{when◌then◌else◌}
+use Rattle.laws.specs.Buffers.{pieces}
 use Rattle.laws.proofs.Pieces.{pieces_snoc}
-use Rattle.texts.specs.Text.{Puts, PutsWhole, written, Within}
+use Rattle.texts.specs.Text.{Puts, PutsWhole, put_whole}
 
-module _ (o s : List ℕ) (at : ℕ) (fits : at + length o ≤ length s) where
-  at_length : length (take at s) ≡ at
-  at_length = length-take-le at s (omega arith)
+module _ (room : ℕ) (o s : List ℕ) where
+  pub put-fits : length s + length o ≤ room → put_whole room o s ≡ s ++ o
+  unfolding put_whole when◌then◌else◌
+  put-fits h = rw (le-leb (length s + length o) room h)
 
-  -- o is to come, behind what stands there
-  putting_from : Putting (take at s ++ o) s s at o
-  putting_from = record {
-    head = take at s;
-    fits = omega (arith, length-append (take at s) o, at_length);
-    ends = at_length;
-    front = sym (take-append-drop at s) ∙ ap (λ (k : ℕ). take at s ++ drop k s) (sym at_length);
-    split = refl;
-  }
+  pub put-short : room < length s + length o → put_whole room o s ≡ s
+  unfolding put_whole when◌then◌else◌
+  put-short h = rw (lt-leb (length s + length o) room h)
 
-  -- all of o is written
-  putting_whole : (n : ℕ) (y : List ℕ) → Putting (take at s ++ o) s y n [] → wrote n y ≡ put_at o at s
-  putting_whole n y p =
-      let l : length (take at s ++ o) ≡ at + length o = length-append (take at s) o ∙ omega (arith, at_length) in
-      let en : n ≡ at + length o = putting_end p refl ∙ l in
-      let ey : y ≡ take at s ++ onto o (drop at s)
-      = putting_done p refl ∙ ap (λ (k : ℕ). (take at s ++ o) ++ drop k s) l ∙ append_assoc (take at s) o _ ∙ ap (λ (x : List ℕ). take at s ++ (o ++ x)) (sym (drop-drop (length o) at s)) in
-      rw (en, ey) (sym (put_at-fits o at s fits))
+-- what the library's vector says of octets that it was to take, all or nothing
+pub put_tried : {E : Type 0} (room : ℕ) (o : List ℕ) (s y : ArrayVec ℕ) (r : Result (Unit {0}) E) → IsOk r ↔ (length s.items + length o ≤ room)
+    → OnOk r (y.items ≡ s.items ++ o) → OnErr r (y ≡ s) → y.items ≡ put_whole room o s.items
+put_tried room o s y (Ok u) fits ok err = ok ∙ sym (put-fits room o s.items (fits.0 refl))
+put_tried {E} room o s y (Err e) fits ok err =
+    let no : length s.items + length o ≤ room → ⊥ = λ h. let z : IsOk {T = Unit {0}} {E = E} (Err e) = fits.1 h in cc in
+    ap (λ (v : ArrayVec ℕ). v.items) err ∙ sym (put-short room o s.items (omega (arith, no)))
 
-  put-answer : (n : ℕ) (y : List ℕ) → wrote n y ≡ put_at o at s → n ≡ at + length o
-  put-answer n y e = ap (λ (w : WrittenBuffer). w.answer) (e ∙ put_at-fits o at s fits)
-
-  put-length : (n : ℕ) (y : List ℕ) → wrote n y ≡ put_at o at s → length y ≡ length s
-  put-length n y e = putting_length (putting_at putting_from o [] (sym (append-nil o)) n y e)
-
--- the one law: two parts, one behind the other
-pub put_two : (o₁ o₂ s : List ℕ) (at : ℕ) → at + length (o₁ ++ o₂) ≤ length s → (k m : ℕ) (y z : List ℕ)
-    → wrote k y ≡ put_at o₁ at s → wrote m z ≡ put_at o₂ k y → wrote m z ≡ put_at (o₁ ++ o₂) at s
-put_two o₁ o₂ s at fits k m y z first second =
-    putting_whole (o₁ ++ o₂) s at fits m z
-    (putting_at (putting_at (putting_from (o₁ ++ o₂) s at fits) o₁ o₂ refl k y first) o₂ [] (sym (append-nil o₂)) m z second)
+-- two parts, one behind the other, where both fit
+pub put_two : (room : ℕ) (o₁ o₂ s y z : List ℕ) → length s + length (o₁ ++ o₂) ≤ room
+    → y ≡ put_whole room o₁ s → z ≡ put_whole room o₂ y → z ≡ put_whole room (o₁ ++ o₂) s
+put_two room o₁ o₂ s y z h first second =
+    let l = length-append o₁ o₂ in
+    let ey : y ≡ s ++ o₁ = first ∙ put-fits room o₁ s (omega arith) in
+    let ly : length y ≡ length s + length o₁ = ap length ey ∙ length-append s o₁ in
+    second ∙ put-fits room o₂ y (omega arith) ∙ ap (λ (x : List ℕ). x ++ o₂) ey ∙ append_assoc s o₁ o₂ ∙ sym (put-fits room (o₁ ++ o₂) s h)
 
 -- ---- parts that are held to their text where there is room for it
 
-module _ {o s y : List ℕ} {at n : ℕ} where
+module _ {room : ℕ} {o s y : List ℕ} where
   -- a part that is written all or nothing
-  pub one : wrote n y ≡ put_at o at s → Puts (length o) o at s n y
-  one e = record { short = omega arith; does = λ _. e }
+  pub one : y ≡ put_whole room o s → Puts room (length o) o s y
+  one e = record { short = omega arith; does = λ h. e ∙ put-fits room o s h }
 
   -- and of which it is known how long it is at most
-  pub short : {most : ℕ} → PutsWhole most o at s n y → Puts most o at s n y
-  short p = record { short = p.short; does = λ _. p.does }
+  pub short : {most : ℕ} → PutsWhole room most o s y → Puts room most o s y
+  short p = record { short = p.short; does = λ h. p.does ∙ put-fits room o s h }
 
-  pub at_most : {most : ℕ} (more : ℕ) → most ≤ more → Puts most o at s n y → Puts more o at s n y
+  pub at_most : {most : ℕ} (more : ℕ) → most ≤ more → Puts room most o s y → Puts room more o s y
   at_most more h p = record { short = omega (arith, p.short); does = p.does }
 
-pub nothing : (at : ℕ) (s : List ℕ) → Puts 0 [] at s at s
-nothing at s = record { short = omega arith; does = λ h. putting_whole [] s at h at s (putting_from [] s at h) }
+pub nothing : (room : ℕ) (s : List ℕ) → Puts room 0 [] s s
+nothing room s = record { short = omega arith; does = λ h. sym (append-nil s) }
 
-pub both : {o₁ o₂ s y z : List ℕ} {at k m most₁ most₂ : ℕ} → Puts most₁ o₁ at s k y → Puts most₂ o₂ k y m z → Puts (most₁ + most₂) (o₁ ++ o₂) at s m z
-both {o₁} {o₂} {s} {y} {z} {at} {k} {m} p q = record {
+pub both : {room : ℕ} {o₁ o₂ s y z : List ℕ} {most₁ most₂ : ℕ} → Puts room most₁ o₁ s y → Puts room most₂ o₂ y z → Puts room (most₁ + most₂) (o₁ ++ o₂) s z
+both {room} {o₁} {o₂} {s} {y} {z} p q = record {
   short = omega (arith, length-append o₁ o₂, p.short, q.short);
   does = λ h.
       let l = length-append o₁ o₂ in
-      let h₁ : at + length o₁ ≤ length s = omega arith in
-      let first = p.does h₁ in
-      let h₂ : k + length o₂ ≤ length y = omega (arith, put-answer o₁ s at h₁ k y first, put-length o₁ s at h₁ k y first) in
-      put_two o₁ o₂ s at h k m y z first (q.does h₂);
+      let h₁ : length s + length o₁ ≤ room = omega arith in
+      let e = p.does h₁ in
+      let h₂ : length y + length o₂ ≤ room = omega (arith, ap length e, length-append s o₁) in
+      q.does h₂ ∙ ap (λ (x : List ℕ). x ++ o₂) e ∙ append_assoc s o₁ o₂;
 }
 
 -- ---- the invariant of a loop that writes some pieces one behind the other: the first i are written
 
-pub record Lining {P : Type 0} (f : P → List ℕ) (most : ℕ) (ps : List P) (from : ℕ) (s buf : List ℕ) (at i : ℕ) : Type 0 where
+pub record Lining {P : Type 0} (room : ℕ) (f : P → List ℕ) (most : ℕ) (ps : List P) (s y : List ℕ) (i : ℕ) : Type 0 where
   pub there : i ≤ length ps
-  pub same : length buf ≡ length s
-  pub puts : Puts (most * i) (pieces (λ (k : ℕ) (p : P). f p) 0 (take i ps)) from s at buf
+  pub puts : Puts room (most * i) (pieces (λ (k : ℕ) (p : P). f p) 0 (take i ps)) s y
 
-pub lining_start : {P : Type 0} (f : P → List ℕ) (most : ℕ) (ps : List P) (from : ℕ) (s : List ℕ) → Lining f most ps from s s from 0
+pub lining_start : {P : Type 0} (room : ℕ) (f : P → List ℕ) (most : ℕ) (ps : List P) (s : List ℕ) → Lining room f most ps s s 0
 unfolding pieces
-lining_start f most ps from s = record { there = omega arith; same = refl; puts = at_most (most * 0) (omega arith) (nothing from s) }
+lining_start room f most ps s = record { there = omega arith; puts = at_most (most * 0) (omega arith) (nothing room s) }
 
-module _ {P : Type 0} {f : P → List ℕ} {most : ℕ} {ps : List P} {from : ℕ} {s buf : List ℕ} {at i : ℕ} (l : Lining f most ps from s buf at i) where
-  pub lining_next : (d : P) {n : ℕ} {y : List ℕ} → i < length ps → length y ≡ length buf → Puts most (f (get_or ps i d)) at buf n y → Lining f most ps from s y n (i + 1)
-  lining_next d h keeps q =
+module _ {P : Type 0} {room : ℕ} {f : P → List ℕ} {most : ℕ} {ps : List P} {s y : List ℕ} {i : ℕ} (l : Lining room f most ps s y i) where
+  pub lining_next : (d : P) {z : List ℕ} → i < length ps → Puts room most (f (get_or ps i d)) y z → Lining room f most ps s z (i + 1)
+  lining_next d h q =
       let taken : take (i + 1) ps ≡ take i ps ++ (get_or ps i d ∷ []) = rw add-one (take-suc ps i d h) in
       let all : pieces (λ (k : ℕ) (p : P). f p) 0 (take (i + 1) ps) ≡ pieces (λ (k : ℕ) (p : P). f p) 0 (take i ps) ++ f (get_or ps i d)
       = ap (pieces (λ (k : ℕ) (p : P). f p) 0) taken ∙ pieces_snoc f 0 (take i ps) (get_or ps i d) in
-      record { there = omega arith; same = keeps ∙ l.same; puts = rw all (at_most (most * (i + 1)) (omega arith) (both l.puts q)) }
+      record { there = omega arith; puts = rw all (at_most (most * (i + 1)) (omega arith) (both l.puts q)) }
 
-  pub lining_end : length ps ≤ i → Puts (most * length ps) (pieces (λ (k : ℕ) (p : P). f p) 0 ps) from s at buf
-  lining_end h = rw (take_all i ps h) at (at_most (most * length ps) (mul-le-mul_left most l.there) l.puts)
+-- ---- into a text that was empty, and has room for the most
 
--- ---- at the front of a buffer that has room for the most
-
-pub whole : {o s y : List ℕ} {n most : ℕ} → Puts most o 0 s n y → most ≤ length s → (wrote n y ≡ written o s) × Within most n y
-whole {o} {s} {y} {n} p room =
-    let at : 0 + length o ≤ length s = omega (arith, p.short) in
-    let e = p.does at in
-    let is = put-answer o s 0 at n y e in
-    let h : n ≤ length y = omega (arith, put-length o s 0 at n y e) in
-    (e ∙ put_at-fits o 0 s at ∙ rw (zero-add (length o)), (omega (arith, p.short), h, sym (length-take-le n y h)))
-
--- the first octets, as many as the answer says, are then the text; put elsewhere, all or nothing, they are that text there
-pub told : (o s y b z : List ℕ) (n at m most : ℕ) → wrote n y ≡ written o s → n ≤ most → wrote m z ≡ put_at (take n y) at b → PutsWhole most o at b m z
-told o s y b z n at m most e few does =
-    let same : take n y ≡ o = ap (λ (w : WrittenBuffer). take w.answer w.octets) e ∙ take_at o (drop (length o) s) (length o) refl in
-    record { short = omega (arith, ap (λ (w : WrittenBuffer). w.answer) e); does = does ∙ ap (λ (x : List ℕ). put_at x at b) same }
+pub whole : {room most : ℕ} {o s y : List ℕ} → s ≡ [] → Puts room most o s y → most ≤ room → (y ≡ o) × (length y ≤ most)
+whole {o = o} empty p room =
+    let e = p.does (omega (arith, ap length empty, p.short)) ∙ ap (λ (x : List ℕ). x ++ o) empty in
+    (e, omega (arith, p.short, ap length e))

@@ -1,10 +1,10 @@
 -- Text, in ASCII: names, numbers, and the lines that several programs print.
 -- Assumes nothing.
-use Rattle.std.specs.Prelude.{ℕ, zero, suc, ◌+◌, ◌-◌, ◌/◌, ◌%◌, ◌≤◌, ◌≡◌, ◌&&◌, List, [], ◌∷◌, ◌++◌, leb, ltb, eqb, length, take}
+use Rattle.std.specs.Prelude.{ℕ, zero, suc, ◌+◌, ◌-◌, ◌/◌, ◌%◌, ◌≤◌, ◌≡◌, ◌&&◌, List, [], ◌∷◌, ◌++◌, leb, ltb, eqb, length}
 use Prim.Native.Char.{code}
 use Prim.Native.String.{String, [] as none, ◌∷◌ as ◌then◌}
 use Rattle.laws.specs.Choice.{when◌then◌else◌}
-use Rattle.laws.specs.Buffers.{onto, pieces, WrittenBuffer, wrote, put_at}
+use Rattle.laws.specs.Buffers.{pieces}
 use Rattle.octets.specs.Refusals.{Refusal}
 
 -- the octets of a text
@@ -65,22 +65,18 @@ frame_line name action dialog count = named name action ++ field " dialog " dial
 unfoldable pub element_head : ℕ → ℕ → ℕ → List ℕ
 element_head id token ty = field "element " id ++ field " token " token ++ field " type " ty
 
--- ---- what a function that writes text leaves
+-- ---- what a function that writes into a text leaves, where the text has room for so many octets
 
--- a text of at most so many octets behind the first `at` of s, where there is room for all of it
-pub record Puts (most : ℕ) (o : List ℕ) (at : ℕ) (s : List ℕ) (n : ℕ) (y : List ℕ) : Type 0 where
+-- o behind what stands there; where it does not fit, nothing
+unfoldable pub put_whole : ℕ → List ℕ → List ℕ → List ℕ
+put_whole room o s = when leb (length s + length o) room then s ++ o else s
+
+-- of at most so many octets, all of it or nothing
+pub record PutsWhole (room most : ℕ) (o s y : List ℕ) : Type 0 where
   pub short : length o ≤ most
-  pub does : at + length o ≤ length s → wrote n y ≡ put_at o at s
+  pub does : y ≡ put_whole room o s
 
--- a text of at most so many octets there, all of it or nothing
-pub record PutsWhole (most : ℕ) (o : List ℕ) (at : ℕ) (s : List ℕ) (n : ℕ) (y : List ℕ) : Type 0 where
+-- of at most so many octets, all of it where there is room for all of it
+pub record Puts (room most : ℕ) (o s y : List ℕ) : Type 0 where
   pub short : length o ≤ most
-  pub does : wrote n y ≡ put_at o at s
-
--- a text at the front of a buffer that has room for every such text, answered by its length
-abbrev pub written : List ℕ → List ℕ → WrittenBuffer
-written o s = wrote (length o) (onto o s)
-
--- how long it is at most, and that it lies within the buffer. The last part follows; with it a program that lends the text on needs no proof file
-abbrev pub Within : ℕ → ℕ → List ℕ → Type 0
-Within most n s = (n ≤ most) × (n ≤ length s) × (n ≡ length (take n s))
+  pub does : length s + length o ≤ room → y ≡ s ++ o

@@ -1,38 +1,25 @@
-// Text in ASCII, into a buffer: names with numbers behind them, octets in hexadecimal, and the lines
-// that several programs print. No `Display`: `write!` into a buffer promises its text only where it
+// Text in ASCII, into a text of fixed capacity: names with numbers behind them, octets in hexadecimal,
+// and the lines that several programs print. No `Display`: `write!` promises its text only where it
 // answers Ok, and no contract says when it does, so that a text that has room could not be promised.
 #![tactic(auto)]
 
-ghost use Rattle.std.specs.Prelude.{◌≡◌, ℕ, ◌&&◌, ◌++◌, ◌+◌, ◌*◌, ◌^◌, ◌<◌, eqb, leb, length};
+ghost use Rattle.std.specs.Prelude.{◌≡◌, ℕ, ◌&&◌, [], ◌++◌, ◌+◌, ◌*◌, ◌^◌, ◌<◌, ◌≤◌, eqb, leb, length, drop};
 ghost use Rattle.std.proofs.Common.{rules};
-ghost use Rattle.laws.specs.Buffers.{wrote, put_at};
 ghost use Rattle.octets.specs.Refusals.{refusal_of};
-ghost use Rattle.texts.specs.Text.{digit as text_digit, decimal, named, hexed, hexes, refusal_line, refusal_most, frame_line, element_head, Puts, PutsWhole, written, Within};
+ghost use Rattle.texts.specs.Text.{digit as text_digit, decimal, named, hexed, hexes, refusal_line, refusal_most, frame_line, element_head, Puts, PutsWhole, put_whole};
 
-use octets::{Refusal, less_one, put};
+use arrayvec::ArrayVec;
+use octets::Refusal;
+use std::convert::AsSlice;
+use std::marker::Model;
 
 // What the line of a refusal has at most.
 const REFUSAL: usize = 36;
 
-// ---- names and numbers; each function writes all of its text or nothing
+// A number of 64 bits has at most so many digits.
+const DIGITS: usize = 20;
 
-// One text and another behind the first `at` octets of a buffer; the place behind them.
-pub fn put_two(buf: &mut [u8], at: usize, front: &[u8], back: &[u8]) -> usize
-    ensures { wrote result buf.new ≡ put_at (front.now ++ back.now) at buf.old }
-{
-    if buf.len() < at {
-        return at;
-    }
-    let room = buf.len() - at;
-    if room < front.len() {
-        return at;
-    }
-    if room - front.len() < back.len() {
-        return at;
-    }
-    let next = put(buf, at, front);
-    put(buf, next, back)
-}
+// ---- numbers
 
 // The character of a digit below 16.
 fn digit(x: u8) -> u8
@@ -99,93 +86,158 @@ fn is_first(rest: u64, least: usize) -> bool
     rest == 0 && least <= 1
 }
 
-// A number in decimal behind a name, with zeros in front of it up to a number of digits.
-pub fn put_number(buf: &mut [u8], at: usize, name: &[u8], n: u64, digits: usize) -> usize
-    ensures { wrote result buf.new ≡ put_at (name.now ++ decimal digits n) at buf.old }
+// The digits of a number at the end of an array, with zeros in front up to a number of digits; where
+// they begin.
+fn spell(text: &mut [u8; DIGITS], n: u64, digits: usize) -> usize
+    ensures text { drop result text.new ≡ decimal digits n }
+    ensures within { result ≤ DIGITS }
 {
-    let mut text = [0u8; 20];
     let mut rest = n;
     let mut least = digits;
-    for i in (0..20).rev() {
+    for i in (0..DIGITS).rev() {
         text[i] = digit((rest % 10) as u8);
         rest /= 10;
         if is_first(rest, least) {
-            return put_two(buf, at, name, &text[i..]);
+            return i;
         }
-        least = less_one(least);
+        least = least.saturating_sub(1);
     }
-    put_two(buf, at, name, &text)
+    0
 }
 
-// A number in decimal behind a name.
-pub fn put_field<N: Number>(buf: &mut [u8], at: usize, name: &[u8], n: N) -> usize
-    ensures { PutsWhole (length name.now + N.digits) (named name.now (N.value n)) at buf.old result buf.new }
-{
-    put_number(buf, at, name, n.wide(), 1)
+// ---- texts
+
+// A text of at most N octets. What no longer fits is left out whole.
+#[derive(Drop)]
+pub struct Text<const N: usize> {
+    octets: ArrayVec<u8, N>,
 }
 
-// An octet as two hexadecimal digits, behind a name.
-pub fn put_hex(buf: &mut [u8], at: usize, name: &[u8], x: u8) -> usize
-    ensures { PutsWhole (length name.now + 2) (hexed name.now x) at buf.old result buf.new }
-{
-    let text = [digit(x / 16), digit(x % 16)];
-    put_two(buf, at, name, &text)
+impl<const N: usize> Model for Text<N> {
+    ghost use Rattle.std.specs.Prelude.{ℕ, List};
+
+    ghost Value = { List ℕ };
+
+    ghost view = { λ t. t.octets.items };
 }
 
-// Octets in hexadecimal, each behind a name.
-pub fn put_hexes(buf: &mut [u8], from: usize, name: &[u8], o: &[u8]) -> usize
-    ensures { Puts ((length name.now + 2) * length o.now) (hexes name.now o.now) from buf.old result buf.new }
-{
-    let mut at = from;
-    for x in o {
-        at = put_hex(buf, at, name, *x);
+impl<const N: usize> Text<N> {
+    // Nothing.
+    pub fn new() -> Self
+        ensures { result ≡ [] }
+    {
+        Text {
+            octets: ArrayVec::new(),
+        }
     }
-    at
+
+    // Octets, as they stand.
+    pub fn put(&mut self, o: &[u8])
+        ensures { self.new ≡ put_whole N o.now self.old }
+    {
+        let _ = self.octets.try_extend_from_slice(o);
+    }
+
+    // How many more octets fit.
+    fn room(&self) -> usize
+        ensures { result + length self.now ≡ N }
+    {
+        self.octets.remaining_capacity()
+    }
+
+    // One text and another behind it; both or nothing.
+    pub fn put_two(&mut self, front: &[u8], back: &[u8])
+        ensures { self.new ≡ put_whole N (front.now ++ back.now) self.old }
+    {
+        let room = self.room();
+        if room < front.len() {
+            return;
+        }
+        if room - front.len() < back.len() {
+            return;
+        }
+        self.put(front);
+        self.put(back);
+    }
+
+    // A number in decimal behind a name, with zeros in front of it up to a number of digits.
+    pub fn number(&mut self, name: &[u8], n: u64, digits: usize)
+        ensures { self.new ≡ put_whole N (name.now ++ decimal digits n) self.old }
+    {
+        let mut text = [0u8; DIGITS];
+        let from = spell(&mut text, n, digits);
+        self.put_two(name, &text[from..]);
+    }
+
+    // A number in decimal behind a name.
+    pub fn field<T: Number>(&mut self, name: &[u8], n: T)
+        ensures { PutsWhole N (length name.now + T.digits) (named name.now (T.value n)) self.old self.new }
+    {
+        self.number(name, n.wide(), 1);
+    }
+
+    // An octet as two hexadecimal digits, behind a name.
+    pub fn hex(&mut self, name: &[u8], x: u8)
+        ensures { PutsWhole N (length name.now + 2) (hexed name.now x) self.old self.new }
+    {
+        self.put_two(name, &[digit(x / 16), digit(x % 16)]);
+    }
+
+    // Octets in hexadecimal, each behind a name.
+    pub fn hexes(&mut self, name: &[u8], o: &[u8])
+        ensures { Puts N ((length name.now + 2) * length o.now) (hexes name.now o.now) self.old self.new }
+    {
+        for x in o {
+            self.hex(name, *x);
+        }
+    }
+
+    // ---- lines
+
+    // The line of a refusal; all of it or nothing.
+    pub fn refusal(&mut self, r: Refusal)
+        ensures { PutsWhole N refusal_most (refusal_line (refusal_of r)) self.old self.new }
+    {
+        let line = refusal_line(r);
+        self.put(line.as_slice());
+    }
+
+    // The first line of a frame's listing.
+    pub fn frame(&mut self, name: &[u8], action: u8, dialog: u8, count: usize)
+        ensures { Puts N (length name.now + 45) (frame_line name.now action dialog count) self.old self.new }
+    {
+        self.field(name, action);
+        self.field(b" dialog ", dialog);
+        self.field(b" elements ", count);
+        self.put(b"\n");
+    }
+
+    // What the line of an element starts with.
+    pub fn element_head(&mut self, id: u8, token: u8, ty: u8)
+        ensures { Puts N 30 (element_head id token ty) self.old self.new }
+    {
+        self.field(b"element ", id);
+        self.field(b" token ", token);
+        self.field(b" type ", ty);
+    }
 }
 
-// ---- lines
+impl<const N: usize> AsSlice<u8> for Text<N> {
+    ghost items = { λ text. text };
 
-// The line of a refusal into an array that has room for every one of them; its length.
-fn refusal_line(line: &mut [u8; REFUSAL], r: Refusal) -> usize
-    ensures text { wrote result line.new ≡ written (refusal_line (refusal_of r)) line.old }
-    ensures within { Within refusal_most result line.new }
-{
-    let next = put_field(line, 0, b"refused ", r.cause.number());
-    let next = put_field(line, next, b" at ", r.place);
-    put(line, next, b"\n")
+    fn as_slice(&self) -> &[u8] {
+        self.octets.as_slice()
+    }
 }
 
-// The line of a refusal; all of it or nothing.
-pub fn put_refusal(buf: &mut [u8], at: usize, r: Refusal) -> usize
-    ensures { PutsWhole refusal_most (refusal_line (refusal_of r)) at buf.old result buf.new }
+// The line of a refusal alone.
+fn refusal_line(r: Refusal) -> Text<REFUSAL>
+    ensures text { result ≡ refusal_line (refusal_of r) }
+    ensures within { length result ≤ refusal_most }
 {
-    let mut line = [0u8; REFUSAL];
-    let end = refusal_line(&mut line, r);
-    put(buf, at, &line[..end])
-}
-
-// The first line of a frame's listing.
-pub fn put_frame(
-    buf: &mut [u8],
-    at: usize,
-    name: &[u8],
-    action: u8,
-    dialog: u8,
-    count: usize,
-) -> usize
-    ensures { Puts (length name.now + 45) (frame_line name.now action dialog count) at buf.old result buf.new }
-{
-    let next = put_field(buf, at, name, action);
-    let next = put_field(buf, next, b" dialog ", dialog);
-    let next = put_field(buf, next, b" elements ", count);
-    put(buf, next, b"\n")
-}
-
-// What the line of an element starts with.
-pub fn put_element_head(buf: &mut [u8], at: usize, id: u8, token: u8, ty: u8) -> usize
-    ensures { Puts 30 (element_head id token ty) at buf.old result buf.new }
-{
-    let next = put_field(buf, at, b"element ", id);
-    let next = put_field(buf, next, b" token ", token);
-    put_field(buf, next, b" type ", ty)
+    let mut line = Text::new();
+    line.field(b"refused ", r.cause.number());
+    line.field(b" at ", r.place);
+    line.put(b"\n");
+    line
 }

@@ -1,7 +1,6 @@
 -- Laws of requesters that are read one behind the other: one more, and those past the end.
 -- Assumes nothing.
-use Rattle.std.proofs.Common.{ℕ, zero, suc, ◌+◌, ◌*◌, ◌≤◌, ◌<◌, min, ◌≡◌, refl, ap, ◌∙◌, List, [], ◌∷◌, ◌++◌, append-nil, arith, add-one, length, drop, set, drop_of_length-le, Bool, true, false, leb, leb-true, leb-false}
-use Rattle.laws.proofs.Arrays.{fill_next}
+use Rattle.std.proofs.Common.{ℕ, zero, suc, ◌+◌, ◌*◌, ◌≤◌, min, ◌≡◌, refl, sym, ap, ◌∙◌, List, [], ◌∷◌, ◌++◌, arith, add-one, length, take, Bool, true, false, leb, leb-true, leb-false}
 use Rattle.octets.proofs.PlaceLaws.{octets-past}
 use Rattle.traces.specs.Records.{requester_at, requesters_at}
 
@@ -39,12 +38,13 @@ module _ (s : List ℕ) where
           let p = leb-false from (length s) h in
           requesters-past n first from (omega arith) (omega arith)
 
-  -- the loop that reads them: the first i are read
-  module _ (blank list : List (List ℕ)) (i from : ℕ) (is : list ≡ requesters_at s i from ++ drop i blank) where
-    pub requesters_next : (at : ℕ) (x : List ℕ) → i < length blank → at ≡ from + 7 * i → x ≡ requester_at s at → set list i x ≡ requesters_at s (i + 1) from ++ drop (i + 1) blank
-    requesters_next at x h e v =
-        let y : x ≡ requester_at s (from + 7 * i) = v ∙ ap (requester_at s) e in
-        rw (is, y, add-one, requesters_snoc i from) (fill_next (requesters_at s i from) blank [] i (requesters-length i from) h (requester_at s (from + 7 * i)))
+  -- the loop that reads them: one more behind the first i
+  pub requesters_next : (i from : ℕ) {list : List (List ℕ)} {x : List ℕ} → list ≡ requesters_at s i from → x ≡ requester_at s (from + 7 * i) → list ++ (x ∷ []) ≡ requesters_at s (i + 1) from
+  requesters_next i from is e = rw (is, e, add-one) (sym (requesters_snoc i from))
 
-    pub requesters_all : length blank ≤ i → list ≡ requesters_at s i from
-    requesters_all h = is ∙ rw (drop_of_length-le blank {i = i} h) (append-nil (requesters_at s i from))
+  -- the first n of more
+  pub requesters_first : (n m at : ℕ) → n ≤ m → take n (requesters_at s m at) ≡ requesters_at s n at
+  unfolding requesters_at
+  requesters_first zero m at h = refl
+  requesters_first (suc n) zero at h = absurd (omega arith)
+  requesters_first (suc n) (suc m) at h = ap {B = List (List ℕ)} (λ r. requester_at s at ∷ r) (requesters_first n m (at + 7) (omega arith))

@@ -1,7 +1,7 @@
 -- Laws of the walks over conditions and elements: where they end, one turn, and the last.
 -- Assumes nothing.
-use Rattle.std.proofs.Common.{ℕ, zero, suc, ◌+◌, ◌≤◌, ◌<◌, ◌≡◌, refl, sym, List, length, arith, false, eqb, ne_eqb, lt-ltb, ltb-false, leb-false}
-use Rattle.std.specs.Prelude.{None, Some}
+use Rattle.std.proofs.Common.{ℕ, zero, suc, ◌+◌, ◌≤◌, ◌<◌, ◌≡◌, refl, sym, List, length, arith, Bool, true, false, eqb, ne_eqb, lt-ltb, ltb-true, leb-false, eqb-true}
+use Rattle.std.specs.Prelude.{None, Some, if◌then◌else◌}
 use Rattle.laws.specs.Choice.{when◌then◌else◌}
 use Rattle.laws.proofs.Choice.{either}
 use Rattle.octets.specs.declared.numbers.Kind.{Kind}
@@ -56,22 +56,6 @@ pub behind-none : (s : List ℕ) (n : ℕ) → place_behind_record s 0 n ≡ 0
 unfolding place_behind_record when◌then◌else◌
 behind-none s n = refl
 
--- so nothing ends there
-module _ (s : List ℕ) where
-  abbrev Inside : ℕ → Type 0
-  Inside end = end ≤ length s
-
-  behind-within : (at n : ℕ) → Inside (place_behind_record s at n)
-  unfolding place_behind_record
-  behind-within at n =
-      either Inside _ _ _ (λ _. omega arith) (λ _. either Inside _ _ _ (λ _. omega arith) (λ e. ltb-false (length s) (at + n) e))
-
-  pub condition-within : (ty at least : ℕ) → Inside (condition_end s ty at least)
-  unfolding condition_end
-  condition-within ty at least =
-      either Inside _ _ _ (λ _. omega arith)
-      (λ _. either Inside _ _ _ (λ _. omega arith) (λ _. either Inside _ _ _ (λ _. omega arith) (λ _. behind-within at _)))
-
 module _ (s : List ℕ) where
   -- each part ends onward
   pub behind-onward : (at n : ℕ) → Onward at (place_behind_record s at n)
@@ -79,6 +63,14 @@ module _ (s : List ℕ) where
   behind-onward at n =
       either (Onward at) _ _ _ (λ _. nowhere at)
       (λ e. either (Onward at) _ _ _ (λ _. nowhere at) (λ _. record { on = λ h. (some_place at e, omega arith) }))
+
+  -- where so many octets are not there, more are not either
+  behind-more : (at n m : ℕ) → place_behind_record s at n ≡ 0 → place_behind_record s at (n + m) ≡ 0
+  unfolding place_behind_record
+  behind-more at n m =
+      let P : ℕ → Type 0 = λ (k : ℕ). k ≡ 0 → place_behind_record s at (n + m) ≡ 0 in
+      either P _ _ _ (λ z _. rw (eqb-true at 0 z) (behind-none s (n + m)))
+      (λ z. either P _ _ _ (λ h _. behind-past s at (n + m) (omega (arith, ltb-true (length s) (at + n) h))) (λ _ h. absurd (omega (arith, some_place at z))))
 
   pub octets_onward : (at : ℕ) → Onward at (octets_end s at)
   unfolding octets_end
@@ -118,6 +110,21 @@ module _ (s : List ℕ) where
   unfolding report_call_end
   report_call-onward at = either (Onward at) _ _ _ (λ _. nowhere at) (λ _. either (Onward at) _ _ _ (λ _. nowhere at) (λ _. behind-onward at 14))
 
+  -- and is refused where its octets are not all there
+  pub report_call-none : (at : ℕ) → place_behind_record s at 14 ≡ 0 → report_call_end s at ≡ 0
+  unfolding report_call_end
+  report_call-none at e = either (λ (n : ℕ). n ≡ 0) _ _ _ (λ _. refl) (λ _. either (λ (n : ℕ). n ≡ 0) _ _ _ (λ _. refl) (λ _. e))
+
+  pub writer_call-none : (at : ℕ) → place_behind_record s at 6 ≡ 0 → writer_call_end s at ≡ 0
+  unfolding writer_call_end
+  writer_call-none at e = either (λ (n : ℕ). n ≡ 0) _ _ _ (λ _. refl) (λ _. either (λ (n : ℕ). n ≡ 0) _ _ _ (λ _. refl) (λ _. elements-none _ _ _ e))
+
+  pub condition-none : (ty at least : ℕ) → place_behind_record s at 2 ≡ 0 → condition_end s ty at least ≡ 0
+  unfolding condition_end
+  condition-none ty at least e =
+      let P : ℕ → Type 0 = λ (n : ℕ). n ≡ 0 in
+      either P _ _ _ (λ _. refl) (λ _. either P _ _ _ (λ _. refl) (λ _. either P _ _ _ (λ _. refl) (λ _. behind-more at 2 _ e)))
+
   writer_call-onward : (at : ℕ) → Onward at (writer_call_end s at)
   unfolding writer_call_end
   writer_call-onward at = either (Onward at) _ _ _ (λ _. nowhere at)
@@ -152,6 +159,15 @@ module _ (s : List ℕ) where
       let P : ℕ → Type 0 = λ (end : ℕ). 0 < end → (at < length s) × (at < end) in
       either P _ _ _ (λ _ h. absurd (omega arith))
       (λ e h. (leb-false (length s) at e, omega (arith, ((fields_onward _ (at + 1)).on h).1)))
+
+-- what the code has of a part that a test refuses
+pub passed : {A : Type 0} {x y : A} (b : Bool) → Some y ≡ (if b then None else Some x) → (b ≡ false) × (y ≡ x)
+passed true e = absurd cc
+passed false e = (refl, cc)
+
+pub refused_by : {A : Type 0} (x : A) (b : Bool) → None ≡ (if b then None else Some x) → b ≡ true
+refused_by x true e = refl
+refused_by x false e = absurd cc
 
 module _ (s : List ℕ) (ty n : ℕ) (w : Conditions) where
   pub conditions_next : (k : ℕ) → n ≡ suc k → more_conditions s ty n w ≡ more_conditions s ty k (with_condition s ty w)

@@ -1,10 +1,11 @@
 // The fields of each record, by a function for each: no two have the same fields in the same places. Octets past
 // the end of the input are 0.
-ghost use Rattle.std.specs.Prelude.{◌≡◌, ◌+◌, ◌≤◌, length};
+ghost use Rattle.std.specs.Prelude.{◌≡◌, ◌+◌, ◌≤◌, length, take};
 ghost use Rattle.traces.specs.Records.{fields_of, milliseconds_at, times_at, requesters_at, span_at, setup_fields, transition_fields, frame_fields, report_fields, move_fields, rsna_fields, peer_link_fields, writer_fields, reader_fields, explain_fields};
 
+use arrayvec::ArrayVec;
 use events::{PeerLink, RsnaEvent, Times, Transition};
-use octets::{Kind, address_at, array_at, kind_of, least, octet, pair_at, time_at};
+use octets::{Kind, address_at, array_at, octet, pair_at, time_at};
 use units::Milliseconds;
 
 // Octets of the input, from one position to another.
@@ -14,7 +15,8 @@ pub struct Span {
     pub to: usize,
 }
 
-// Behind the identity are a number of requesters, and they.
+// Behind the identity are a number of requesters, and they. The number and where they stand, here and in the
+// calls below, are what the trace says, not a list that is held: that is read when it is asked for.
 #[derive(Clone, Copy)]
 pub struct SetupCall {
     pub identity: Span,
@@ -126,14 +128,14 @@ fn span_at(s: &[u8], at: usize) -> Span
     }
 }
 
-// The requesters at a position, an address and its form each, as many as a record can have.
-pub fn requesters_at(s: &[u8], from: usize) -> [[u8; 7]; 255]
-    ensures { result ≡ requesters_at s.now 255 from }
+// So many requesters at a position, an address and its form each: the first of as many as a record can have.
+pub fn requesters_at(s: &[u8], count: u8, from: usize) -> ArrayVec<[u8; 7], 255>
+    ensures { result.items ≡ take count (requesters_at s.now 255 from) }
 {
-    let first = least(from, s.len());
-    let mut list = [[0u8; 7]; 255];
-    for (i, requester) in list.iter_mut().enumerate() {
-        *requester = array_at(s, first + 7 * i);
+    let first = from.min(s.len());
+    let mut list = ArrayVec::new();
+    for i in 0..count as usize {
+        list.push(array_at(s, first + 7 * i));
     }
     list
 }
@@ -195,7 +197,7 @@ pub fn report_call_at(s: &[u8], at: usize) -> ReportCall
     ReportCall {
         reading: milliseconds_at(s, at),
         requester: address_at(s, at + 4),
-        kind: kind_of(octet(s, at + 10)),
+        kind: Kind::from(octet(s, at + 10)),
         length: pair_at(s, at + 11),
         fill: octet(s, at + 13),
     }
@@ -254,7 +256,7 @@ pub fn writer_call_at(s: &[u8], at: usize) -> WriterCall
     WriterCall {
         length: pair_at(s, at),
         fill: octet(s, at + 2),
-        kind: kind_of(octet(s, at + 3)),
+        kind: Kind::from(octet(s, at + 3)),
         dialog: octet(s, at + 4),
         count: octet(s, at + 5),
         elements: at + 6,

@@ -1,5 +1,5 @@
 // The elements of a request writer's record.
-ghost use Rattle.std.specs.Prelude.{◌≡◌, ◌≤◌, ◌<◌, length, IfSome};
+ghost use Rattle.std.specs.Prelude.{◌≡◌, ◌≤◌, ◌<◌, IfSome, if◌then◌else◌};
 ghost use Rattle.traces.specs.Places.{unless_refused, found};
 ghost use Rattle.traces.specs.Elements.{condition_table, traced_length, with_condition, conditions_at, bad_value, limit_of, timeout_of, traced_element_at, with_traced, elements_at};
 
@@ -49,20 +49,18 @@ fn traced_length(ty: usize, id: usize) -> Option<usize>
     ensures length { result ≡ found (traced_length ty id) }
     ensures known { IfSome result (λ n. (n ≤ 8) × (id < 5)) }
 {
-    let n = length_of(ty, id, 254);
-    if n == 0 {
-        return None;
+    match length_of(ty, id, 254) {
+        0 => None,
+        n => Some(n),
     }
-    Some(n)
 }
 
 // One more condition, in the place of its ID.
 fn with_condition(s: &[u8], ty: usize, w: Conditions) -> Option<Conditions>
-    requires within { w.end ≤ length s.now }
-    requires place { 0 < w.end }
     ensures { let more = with_condition s.now ty w in result ≡ unless_refused more.end more }
 {
     let at = w.end;
+    behind(s, at, 2)?;
     let id = size(s, at);
     if id < w.least {
         return None;
@@ -86,8 +84,7 @@ fn with_condition(s: &[u8], ty: usize, w: Conditions) -> Option<Conditions>
 
 // So many conditions with rising IDs.
 fn conditions_at(s: &[u8], ty: usize, count: u8, from: usize) -> Option<Conditions>
-    requires within { from ≤ length s.now }
-    requires place { 0 < from }
+    requires { 0 < from }
     ensures { let all = conditions_at s.now ty count from in result ≡ unless_refused all.end all }
 {
     let blank = blank_element();
@@ -103,44 +100,24 @@ fn conditions_at(s: &[u8], ty: usize, count: u8, from: usize) -> Option<Conditio
     Some(w)
 }
 
-// A limit is below 256.
-fn bad_value(kind: Kind, value: u16) -> bool
-    ensures { result ≡ bad_value kind value }
+// The limit and the timeout of an element; an event has the one, a diagnostic the other. A limit is below 256.
+fn limits_of(kind: Kind, value: u16) -> Option<(u8, u16)>
+    ensures { result ≡ (if bad_value kind value then None else Some (record { 0 = limit_of kind value; 1 = timeout_of kind value })) }
 {
     match kind {
-        Kind::Event => 255 < value,
-        Kind::Diagnostic => false,
-    }
-}
-
-fn limit_of(kind: Kind, value: u16) -> u8
-    ensures { result ≡ limit_of kind value }
-{
-    match kind {
-        Kind::Event => (value % 256) as u8,
-        Kind::Diagnostic => 0,
-    }
-}
-
-fn timeout_of(kind: Kind, value: u16) -> u16
-    ensures { result ≡ timeout_of kind value }
-{
-    match kind {
-        Kind::Event => 0,
-        Kind::Diagnostic => value,
+        Kind::Event if value < 256 => Some((value as u8, 0)),
+        Kind::Event => None,
+        Kind::Diagnostic => Some((0, value)),
     }
 }
 
 // The element at a position: token, type, limit or timeout, conditions.
 fn element_at(s: &[u8], kind: Kind, at: usize) -> Option<Recorded>
-    requires { 0 < at }
     ensures { let r = traced_element_at s.now kind at in result ≡ unless_refused r.end r }
 {
     let from = behind(s, at, 5)?;
     let value = pair_at(s, at + 2);
-    if bad_value(kind, value) {
-        return None;
-    }
+    let (limit, timeout) = limits_of(kind, value)?;
     let ty = octet(s, at + 1);
     let conditions = conditions_at(s, condition_table(kind, ty), octet(s, at + 4), from)?;
     let filter = conditions.filter;
@@ -149,9 +126,9 @@ fn element_at(s: &[u8], kind: Kind, at: usize) -> Option<Recorded>
         element: Element {
             token: octet(s, at),
             ty,
-            limit: limit_of(kind, value),
+            limit,
             subs: 0,
-            timeout: timeout_of(kind, value),
+            timeout,
             filter,
         },
     })

@@ -1,5 +1,5 @@
 // Traces: recorded lists of calls, as the program `replay` reads them, and the text of the answers.
-// Fields are least octet first.
+// Fields are least octet first. Functions take the input and a position in it, by which a refusal is told.
 #![tactic(auto)]
 
 mod calls;
@@ -15,5 +15,6 @@ pub use calls::{
 pub use elements::{Elements, elements_at};
 pub use places::{RecordKind, record_end, record_kind};
 pub use text::{
-    BUFFER, BUFFER_LINE, LINE, put_answer, put_buffer, put_explanation, put_trace_refusal,
+    BUFFER, BUFFER_LINE, LINE, answer_line, buffer_line, explanation_line, lent_buffer,
+    trace_refusal_line,
 };

@@ -1,10 +1,10 @@
 // Where each record ends.
-ghost use Rattle.std.specs.Prelude.{◌≡◌, ◌+◌, ◌≤◌, ◌<◌, length, get_or, IfSome, MatchOption};
+ghost use Rattle.std.specs.Prelude.{◌≡◌, ◌+◌, ◌≤◌, length, get_or, IfSome, MatchOption};
 ghost use Rattle.traces.specs.Places.{place_behind_record as places_behind, found, bad_length, octets_end, list_end};
 ghost use Rattle.traces.specs.Records.{number_of, IsUnknown, report_call_end, good_action, writer_call_end, fields_end, record_end};
 
 use crate::elements::elements_at;
-use octets::{kind_of, octet, pair_at, size};
+use octets::{Kind, octet, pair_at, size};
 
 // No length in a record is over this.
 const MOST: u16 = 4096;
@@ -47,12 +47,14 @@ pub fn record_kind(s: &[u8], at: usize) -> Option<RecordKind>
     }
 }
 
-// Where so many octets from a position on end.
+// Where so many octets from a position on end; at 0 stands the number of a record, and no part of it.
 pub(crate) fn behind(s: &[u8], at: usize, n: usize) -> Option<usize>
-    requires { 0 < at }
     ensures place { result ≡ found (places_behind s.now at n) }
     ensures within { IfSome result (λ end. (end ≡ at + n) × (end ≤ length s.now)) }
 {
+    if at == 0 {
+        return None;
+    }
     if s.len() < at {
         return None;
     }
@@ -70,7 +72,6 @@ fn bad_length(s: &[u8], at: usize) -> bool
 
 // A length and so many octets.
 fn octets_end(s: &[u8], at: usize) -> Option<usize>
-    requires { 0 < at }
     ensures { result ≡ found (octets_end s.now at) }
 {
     if bad_length(s, at) {
@@ -82,7 +83,6 @@ fn octets_end(s: &[u8], at: usize) -> Option<usize>
 
 // A number of requesters and so many of them.
 fn list_end(s: &[u8], at: usize) -> Option<usize>
-    requires { 0 < at }
     ensures { result ≡ found (list_end s.now at) }
 {
     let from = behind(s, at, 1)?;
@@ -91,17 +91,16 @@ fn list_end(s: &[u8], at: usize) -> Option<usize>
 
 // The fields of a report call.
 fn report_call_end(s: &[u8], at: usize) -> Option<usize>
-    requires within { at ≤ length s.now }
-    requires place { 0 < at }
     ensures { result ≡ found (report_call_end s.now at) }
 {
+    let end = behind(s, at, 14)?;
     if 1 < octet(s, at + 10) {
         return None;
     }
     if bad_length(s, at + 11) {
         return None;
     }
-    behind(s, at, 14)
+    Some(end)
 }
 
 fn good_action(action: u8) -> bool
@@ -112,10 +111,9 @@ fn good_action(action: u8) -> bool
 
 // The fields of a request writer's call, with its elements.
 fn writer_call_end(s: &[u8], at: usize) -> Option<usize>
-    requires within { at ≤ length s.now }
-    requires place { 0 < at }
     ensures { result ≡ found (writer_call_end s.now at) }
 {
+    let from = behind(s, at, 6)?;
     if bad_length(s, at) {
         return None;
     }
@@ -123,15 +121,12 @@ fn writer_call_end(s: &[u8], at: usize) -> Option<usize>
     if !good_action(action) {
         return None;
     }
-    let from = behind(s, at, 6)?;
-    let w = elements_at(s, kind_of(action), octet(s, at + 5), from)?;
+    let w = elements_at(s, Kind::from(action), octet(s, at + 5), from)?;
     Some(w.end)
 }
 
-// The fields of a record.
+// The fields of a record. A match, which the compiler holds to name every kind.
 fn fields_end(s: &[u8], kind: RecordKind, at: usize) -> Option<usize>
-    requires within { at ≤ length s.now }
-    requires place { 0 < at }
     ensures { result ≡ found (fields_end s.now (number_of kind) at) }
 {
     match kind {

@@ -1,14 +1,14 @@
-// The lines of answers, explanations and lent buffers, each whole into an array that has room for every one of them.
-ghost use Rattle.std.specs.Prelude.{◌≡◌, ◌+◌, ◌*◌, length, take};
-ghost use Rattle.laws.specs.Buffers.{wrote};
+// The lines of answers, explanations and lent buffers, each in a text that has room for every one of them.
+ghost use Rattle.std.specs.Prelude.{◌≡◌, [], ◌+◌, ◌≤◌, length, take, replicate};
 ghost use Rattle.explanations.specs.Explanations.{reason_given, explanation_read};
-ghost use Rattle.texts.specs.Text.{Puts, written, Within};
-ghost use Rattle.traces.specs.Lines.{number_line, answer_line, explanation_line, trace_refusal_line, octets_text, buffer_line, line_most, buffer_line_most};
+ghost use Rattle.texts.specs.Text.{Puts};
+ghost use Rattle.traces.specs.Lines.{number_line, answer_line, explanation_line, trace_refusal_line, buffer_line, line_most, buffer_line_most};
 
+use arrayvec::ArrayVec;
 use explanations::Explanation;
-use octets::{Refusal, least, put};
+use octets::Refusal;
 use requesters::Answer;
-use texts::{put_field, put_hexes, put_refusal};
+use texts::Text;
 
 // What the line of an answer, of an explanation or of a trace that is refused has at most.
 pub const LINE: usize = 38;
@@ -19,73 +19,84 @@ pub const BUFFER: usize = 4096;
 // `buffer `, those in hexadecimal, and a line feed.
 pub const BUFFER_LINE: usize = 7 + 2 * BUFFER + 1;
 
-fn put_line(buf: &mut [u8], name: &[u8], n: usize) -> usize
-    ensures { Puts (length name.now + 20 + 1) (number_line name.now n) 0 buf.old result buf.new }
+// The line of a name and a number.
+fn put_line(line: &mut Text<LINE>, name: &[u8], n: usize)
+    ensures { Puts LINE (length name.now + 20 + 1) (number_line name.now n) line.old line.new }
 {
-    let next = put_field(buf, 0, name, n);
-    put(buf, next, b"\n")
+    line.field(name, n);
+    line.put(b"\n");
 }
 
-// The line of an answer; its length.
-pub fn put_answer(line: &mut [u8; LINE], answer: Answer) -> usize
-    ensures text { wrote result line.new ≡ written (answer_line answer) line.old }
-    ensures within { Within line_most result line.new }
+// The line of an answer.
+pub fn answer_line(answer: Answer) -> Text<LINE>
+    ensures text { result ≡ answer_line answer }
+    ensures within { length result ≤ line_most }
 {
+    let mut line = Text::new();
     match answer {
-        Answer::Accepted => put(line, 0, b"accepted\n"),
-        Answer::Nothing => put(line, 0, b"nothing\n"),
-        Answer::Length(n) => put_line(line, b"length ", n),
-        Answer::Refused(refusal) => put_refusal(line, 0, refusal),
+        Answer::Accepted => line.put(b"accepted\n"),
+        Answer::Nothing => line.put(b"nothing\n"),
+        Answer::Length(n) => put_line(&mut line, b"length ", n),
+        Answer::Refused(refusal) => line.refusal(refusal),
     }
+    line
 }
 
 // The line of a reason.
-fn put_reason(line: &mut [u8; LINE], e: Explanation) -> usize
-    ensures text { wrote result line.new ≡ written (explanation_line (reason_given e)) line.old }
-    ensures within { Within line_most result line.new }
+fn reason_line(e: Explanation) -> Text<LINE>
+    ensures text { result ≡ explanation_line (reason_given e) }
+    ensures within { length result ≤ line_most }
 {
+    let mut line = Text::new();
     match e {
-        Explanation::LoggedAfter => put(line, 0, b"logged after acceptance\n"),
-        Explanation::WrongType => put(line, 0, b"wrong type\n"),
-        Explanation::Unmet(id) => put_line(line, b"condition ", id as usize),
-        Explanation::LimitReached => put(line, 0, b"limit reached\n"),
-        Explanation::Reported => put(line, 0, b"reported\n"),
+        Explanation::LoggedAfter => line.put(b"logged after acceptance\n"),
+        Explanation::WrongType => line.put(b"wrong type\n"),
+        Explanation::Unmet(id) => put_line(&mut line, b"condition ", id as usize),
+        Explanation::LimitReached => line.put(b"limit reached\n"),
+        Explanation::Reported => line.put(b"reported\n"),
     }
+    line
 }
 
-// The line of an explanation, or of the refusal of what it was asked for; its length.
-pub fn put_explanation(line: &mut [u8; LINE], e: Result<Explanation, Refusal>) -> usize
-    ensures text { wrote result line.new ≡ written (explanation_line (explanation_read e)) line.old }
-    ensures within { Within line_most result line.new }
+// The line of an explanation, or of the refusal of what it was asked for.
+#[tactic(auto, unfolding(crate::specs::Lines::answer_line, crate::specs::Lines::explanation_line))]
+pub fn explanation_line(e: Result<Explanation, Refusal>) -> Text<LINE>
+    ensures text { result ≡ explanation_line (explanation_read e) }
+    ensures within { length result ≤ line_most }
 {
     match e {
-        Ok(reason) => put_reason(line, reason),
-        Err(refusal) => put_refusal(line, 0, refusal),
+        Ok(reason) => reason_line(reason),
+        Err(refusal) => answer_line(Answer::Refused(refusal)),
     }
 }
 
 // The line of a trace that is refused at a place.
-pub fn put_trace_refusal(line: &mut [u8; LINE], place: usize) -> usize
-    ensures text { wrote result line.new ≡ written (trace_refusal_line place) line.old }
-    ensures within { Within line_most result line.new }
+pub fn trace_refusal_line(place: usize) -> Text<LINE>
+    ensures text { result ≡ trace_refusal_line place }
+    ensures within { length result ≤ line_most }
 {
-    put_line(line, b"trace refused at ", place)
+    let mut line = Text::new();
+    put_line(&mut line, b"trace refused at ", place);
+    line
 }
 
-// The first n octets in hexadecimal.
-fn put_octets(line: &mut [u8], at: usize, o: &[u8], n: usize) -> usize
-    ensures { Puts (2 * length o.now) (octets_text (take n o.now)) at line.old result line.new }
+// A lent buffer: as many octets of one value as a record says, and no more than a buffer has.
+pub fn lent_buffer(fill: u8, length: u16) -> ArrayVec<u8, BUFFER>
+    ensures { result.items ≡ take length (replicate BUFFER fill) }
 {
-    let end = least(n, o.len());
-    put_hexes(line, at, b"", &o[..end])
+    let mut buf = ArrayVec::from([fill; BUFFER]);
+    buf.truncate(length as usize);
+    buf
 }
 
-// The line of the first n octets of a buffer.
-pub fn put_buffer(line: &mut [u8; BUFFER_LINE], buf: &[u8; BUFFER], n: usize) -> usize
-    ensures text { wrote result line.new ≡ written (buffer_line (take n buf.now)) line.old }
-    ensures within { Within buffer_line_most result line.new }
+// The line of a buffer.
+pub fn buffer_line(buf: &ArrayVec<u8, BUFFER>) -> Text<BUFFER_LINE>
+    ensures text { result ≡ buffer_line buf.now.items }
+    ensures within { length result ≤ buffer_line_most }
 {
-    let next = put(line, 0, b"buffer ");
-    let next = put_octets(line, next, buf, n);
-    put(line, next, b"\n")
+    let mut line = Text::new();
+    line.put(b"buffer ");
+    line.hexes(b"", buf.as_slice());
+    line.put(b"\n");
+    line
 }

@@ -84,7 +84,8 @@ impl Elapsed {
         Elapsed::from(limit) < self
     }
 
-    // Is this time at or after another? As a TimeUnits' `at_least`: a trait for the two would be longer than they are.
+    // Is this time at or after another? One line over the derived order, as a TimeUnits' `at_least`, under the
+    // paper's words: two edits here hold which way each goes, and tests/straight plants a call of one.
     pub fn at_least(self, earliest: Elapsed) -> bool
         ensures { result ≡ at_least self.0 earliest.0 }
     {

@@ -112,4 +112,16 @@ mod tests {
         ]);
         assert_eq!(faults.unwrap_err(), ["crates/b/specs/B.antt: no `x` where it is imported from"]);
     }
+
+    #[test]
+    fn what_a_file_passes_on_can_be_imported_from_it() {
+        let graph = |passed: &str| {
+            sample::graph(&[
+                ("a", Part::Proofs, "A", passed),
+                ("b", Part::Proofs, "B", "use Rattle.a.proofs.A.{x}"),
+            ])
+        };
+        assert!(graph("pub use lib.Seq.{w, x}").is_ok());
+        assert!(graph("use lib.Seq.{x}").is_err());
+    }
 }

@@ -40,6 +40,12 @@ pub fn logic(text: &str) -> Result<Vec<(Origin<'_>, Vec<Import<'_>>)>, String> {
     statements.filter(|text| !is_proof_module(text)).map(statement).collect()
 }
 
+/// Does a text pass on a name, `pub use LIBRARY.MODULE.{name}`?
+pub fn passes_on(text: &str, name: &str) -> bool {
+    let names = text.lines().filter_map(|line| line.strip_prefix("pub use ")?.split_once(".{"));
+    names.flat_map(|(_, names)| names.split(['}', ','])).any(|passed| passed.trim() == name)
+}
+
 /// `Rattle.CRATE.proofs.MODULE as NAME`, which brings no definition along: for instance what the prover knows of a
 /// struct.
 fn is_proof_module(text: &str) -> bool {

@@ -76,6 +76,12 @@ impl<'a> Linker<'a> {
         }
     }
 
+    /// Does the file of an origin pass on a name of another library?
+    fn passes_on(&self, origin: &Origin, name: &str) -> bool {
+        let Origin::File { krate, part, module } = origin else { return false };
+        self.file(krate, *part, module).is_some_and(|file| imports::passes_on(&file.source.text, name))
+    }
+
     /// Is it a crate of the toolchain, or a module that the toolchain makes: of proofs, or
     /// `specs.contracts.TYPE`?
     fn is_outside(&self, origin: &Origin) -> bool {
@@ -99,6 +105,7 @@ impl<'a> Linker<'a> {
             for import in names {
                 match self.imported(origin, import.name) {
                     Some(target) => scope.insert(import.alias, target),
+                    None if self.passes_on(origin, import.name) => {}
                     None => faults.push(in_file(format!("no `{}` where it is imported from", import.name))),
                 }
             }

@@ -7,4 +7,4 @@ use Rattle.report_listing.proofs.put_bare.Goals as goal
 
 pub returns : goal.returns
 unfolding bare_text
-returns c = at_most _ (omega arith) (both (one c.put-next.ensures) c.put_hexes.ensures)
+returns c = at_most _ (omega arith) (both (one c.put.ensures) c.hexes.ensures)

@@ -6,4 +6,4 @@ use Rattle.report_listing.proofs.put_clock.Goals as goal
 
 pub returns : goal.returns
 unfolding clock_text
-returns c = both (both (both c.put_time_octet-next.ensures c.put_time_octet-next-2.ensures) c.put_time_octet-next-3.ensures) c.put_time_field.ensures
+returns c = both (both (both c.put_time_octet.ensures c.put_time_octet-2.ensures) c.put_time_octet-3.ensures) c.put_time_field.ensures

@@ -9,4 +9,4 @@ pub returns : goal.returns
 unfolding colon_text
 returns c = let o = c.args.o.now in
     let n = length-drop 1 o in
-    at_most _ (omega (arith, n, c.requires)) (both (short c.put_hex-next.ensures) (rw (take_all (length o - 1) (drop 1 o) (omega (arith, n))) at c.put_hexes.ensures))
+    at_most _ (omega (arith, n, c.requires)) (both (short c.hex.ensures) (rw (take_all (length o - 1) (drop 1 o) (omega (arith, n))) at c.hexes.ensures))

@@ -6,4 +6,4 @@ use Rattle.report_listing.proofs.put_date.Goals as goal
 
 pub returns : goal.returns
 unfolding date_text
-returns c = both (both c.put_time_field-next.ensures c.put_time_octet-next.ensures) c.put_time_octet.ensures
+returns c = both (both c.put_time_field.ensures c.put_time_octet.ensures) c.put_time_octet-2.ensures

@@ -6,4 +6,4 @@ use Rattle.report_listing.proofs.put_element.Goals as goal
 
 pub returns : goal.returns
 unfolding report_element_line
-returns c = both (both c.put_head-next.ensures c.put_tail-next.ensures) (one c.put.ensures)
+returns c = both (both c.put_head.ensures c.put_tail.ensures) (one c.put.ensures)

@@ -15,6 +15,6 @@ pub returns-then-e-eq-SUCCESSFUL : goal.returns-then-e-eq-SUCCESSFUL
 unfolding event_tail when◌then◌else◌
 returns-then-e-eq-SUCCESSFUL c = rw (c.if-e.false, eq-eqb _ _ c.if-e-eq-SUCCESSFUL.true) c.put_unread.ensures
 
-pub returns : goal.returns
+pub returns-else-e-eq-SUCCESSFUL : goal.returns-else-e-eq-SUCCESSFUL
 unfolding event_tail when◌then◌else◌
-returns c = rw (c.if-e.false, ne_eqb _ _ c.if-e-eq-SUCCESSFUL.false) (at_most unread_most (omega arith) (nothing _ _))
+returns-else-e-eq-SUCCESSFUL c = rw (c.if-e.false, ne_eqb _ _ c.if-e-eq-SUCCESSFUL.false) (at_most unread_most (omega arith) (nothing _ _))

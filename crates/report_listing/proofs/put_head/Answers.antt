@@ -6,4 +6,4 @@ use Rattle.report_listing.proofs.put_head.Goals as goal
 
 pub returns : goal.returns
 unfolding head_text
-returns c = both (rw c.report_id.ensures at c.put_element_head-next.ensures) (short c.put_field.ensures)
+returns c = both (rw c.report_id.ensures at c.element_head.ensures) (short c.field.ensures)

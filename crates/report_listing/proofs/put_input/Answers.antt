@@ -8,11 +8,11 @@ use Rattle.report_listing.proofs.put_input.Goals as goal
 
 pub returns-then-not-is_form : goal.returns-then-not-is_form
 unfolding input_listing when◌then◌else◌
-returns-then-not-is_form c = rw (← c.octet-form.ensures, ← c.is_form.ensures, c.if-not-is_form.true) (at_most report_listing_most (omega arith) (short (rw c.at.ensures at c.put_refusal.ensures)))
+returns-then-not-is_form c = rw (← c.octet-form.ensures, ← c.is_form.ensures, c.if-not-is_form.true) (at_most report_listing_most (omega arith) (short (rw c.at.ensures at c.refusal.ensures)))
 
 pub returns-then-input-lt7 : goal.returns-then-input-lt7
 unfolding input_listing when◌then◌else◌
-returns-then-input-lt7 c = rw (← c.octet-form.ensures, ← c.is_form.ensures, c.if-not-is_form.false, lt-ltb _ _ c.if-input-lt7.true) (at_most report_listing_most (omega arith) (short (rw c.at-then-input-lt7.ensures at c.put_refusal-then-input-lt7.ensures)))
+returns-then-input-lt7 c = rw (← c.octet-form.ensures, ← c.is_form.ensures, c.if-not-is_form.false, lt-ltb _ _ c.if-input-lt7.true) (at_most report_listing_most (omega arith) (short (rw c.at-then-input-lt7.ensures at c.refusal-then-input-lt7.ensures)))
 
 pub returns : goal.returns
 unfolding input_listing when◌then◌else◌

@@ -14,8 +14,8 @@ put_elements-requires c = let r = readable _ _ _ _ c.in-Ok.ensures refl in (r.to
 pub returns-in-Ok : goal.returns-in-Ok
 unfolding report_listing when◌then◌else◌
 returns-in-Ok c = let few = (readable _ _ _ _ c.in-Ok.ensures refl).few in
-    rw (← c.in-Ok.ensures) (at_most report_listing_most (omega (arith, few)) (both (rw c.report_action-action.ensures at c.put_frame-next.ensures) c.put_elements.ensures))
+    rw (← c.in-Ok.ensures) (at_most report_listing_most (omega (arith, few)) (both (rw c.report_action-action.ensures at c.frame.ensures) c.put_elements.ensures))
 
 pub returns-in-Err : goal.returns-in-Err
 unfolding report_listing when◌then◌else◌
-returns-in-Err c = rw (← c.in-Err.ensures, ne_eqb _ 0 (some_number c.in-Err.refusal.cause)) (at_most report_listing_most (omega arith) (short c.put_refusal.ensures))
+returns-in-Err c = rw (← c.in-Err.ensures, ne_eqb _ 0 (some_number c.in-Err.refusal.cause)) (at_most report_listing_most (omega arith) (short c.refusal.ensures))

@@ -12,4 +12,4 @@ returns c = let e = c.args.e in
     let six : length e.peer ≡ 6 = search (rules, c.well_formed) in
     rw (← c.three.ensures)
     (at_most event_most (omega (arith, six))
-    (both (both (both (both (both (both c.put_times-next.ensures c.put_colons-next.ensures) (short c.put_field-next.ensures)) (short c.put_field-next-2.ensures)) (short c.put_field-next-3.ensures)) (short c.put_field-next-4.ensures)) (short c.put_field.ensures)))
+    (both (both (both (both (both (both c.put_times.ensures c.put_colons.ensures) (short c.field.ensures)) (short c.field-2.ensures)) (short c.field-3.ensures)) (short c.field-4.ensures)) (short c.field-5.ensures)))

@@ -12,4 +12,4 @@ returns c = let t = c.args.t in
     let tsf : length t.tsf ≡ 8 = search (rules, c.well_formed) in
     let offset : length t.offset ≡ 10 = search (rules, c.well_formed) in
     let error : length t.error ≡ 5 = search (rules, c.well_formed) in
-    at_most times_most (omega (arith, tsf, offset, error)) (both (both c.put_bare-next.ensures c.put_bare-next-2.ensures) c.put_bare.ensures)
+    at_most times_most (omega (arith, tsf, offset, error)) (both (both c.put_bare.ensures c.put_bare-2.ensures) c.put_bare-3.ensures)

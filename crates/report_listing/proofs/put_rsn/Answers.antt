@@ -16,7 +16,7 @@ pub returns : goal.returns
 unfolding rsn_text when◌then◌else◌
 returns c = let a = c.args in
     let l : length a.rsn ≡ rsn_length = search rules in
-    let n = c.least-n.result in
-    let m = c.least-n.ensures in
+    let n = c.min-n.result in
+    let m = c.min-n.ensures in
     let k = length-take n a.rsn in
     rw (ne_eqb _ 0 c.if-size-eq0.false, ← take_within a.rsn rsn_length n l a.size m) (at_most 49 (omega (arith, l, m, k)) c.put_bare.ensures)

@@ -6,4 +6,4 @@ use Rattle.report_listing.proofs.put_signals.Goals as goal
 
 pub returns : goal.returns
 unfolding signals_text
-returns c = both (both (both (short c.put_field-next.ensures) (short c.put_field-next-2.ensures)) (short c.put_field-next-3.ensures)) (short c.put_field.ensures)
+returns c = both (both (both (short c.field.ensures) (short c.field-2.ensures)) (short c.field-3.ensures)) (short c.field-4.ensures)

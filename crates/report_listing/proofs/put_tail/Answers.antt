@@ -11,4 +11,4 @@ returns-in-Event c = rw c.in-Event.is c.put_event_tail.ensures
 
 pub returns-in-Diagnostic : goal.returns-in-Diagnostic
 unfolding tail_text
-returns-in-Diagnostic c = rw c.in-Diagnostic.is (at_most _ (tail-most c.args.e.logged) (short c.put_field.ensures))
+returns-in-Diagnostic c = rw c.in-Diagnostic.is (at_most _ (tail-most c.args.e.logged) (short c.field.ensures))

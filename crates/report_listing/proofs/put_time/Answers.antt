@@ -6,4 +6,4 @@ use Rattle.report_listing.proofs.put_time.Goals as goal
 
 pub returns : goal.returns
 unfolding time_text
-returns c = both (rw c.pair.ensures at c.put_date-next.ensures) (rw c.pair-2.ensures at c.put_clock.ensures)
+returns c = both (rw c.pair.ensures at c.put_date.ensures) (rw c.pair-2.ensures at c.put_clock.ensures)

@@ -11,6 +11,6 @@ pub returns-then-form-eq-DRAFT : goal.returns-then-form-eq-DRAFT
 unfolding times_text when◌then◌else◌
 returns-then-form-eq-DRAFT c = rw c.if-form-eq-DRAFT.true (at_most times_most (omega arith) c.put_time.ensures)
 
-pub returns : goal.returns
+pub returns-else-form-eq-DRAFT : goal.returns-else-form-eq-DRAFT
 unfolding times_text when◌then◌else◌
-returns c = rw (ne_eqb _ _ c.if-form-eq-DRAFT.false) c.put_published.ensures
+returns-else-form-eq-DRAFT c = rw (ne_eqb _ _ c.if-form-eq-DRAFT.false) c.put_published.ensures

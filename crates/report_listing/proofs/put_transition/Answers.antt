@@ -12,4 +12,4 @@ returns c = let e = c.args.e in
     let six : length e.source ≡ 6 = search (rules, c.well_formed) in
     let other : length e.target ≡ 6 = search (rules, c.well_formed) in
     at_most event_most (omega (arith, six, other))
-    (both (both (both (both (both (both c.put_times-next.ensures c.put_colons-next.ensures) c.put_colons-next-2.ensures) (short c.put_field-next.ensures)) (short c.put_field-next-2.ensures)) (short c.put_field-next-3.ensures)) c.put_signals.ensures)
+    (both (both (both (both (both (both c.put_times.ensures c.put_colons.ensures) c.put_colons-2.ensures) (short c.field.ensures)) (short c.field-2.ensures)) (short c.field-3.ensures)) c.put_signals.ensures)

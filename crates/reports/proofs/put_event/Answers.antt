@@ -14,7 +14,7 @@ returns-then-buf-rest c = let a = c.args in
     let p : length a.entry.published ≡ published_length = search rules in
     let b : length a.entry.body ≡ body_capacity = search rules in
     put_short
-    (omega (arith, c.if-buf-rest.true, c.time_length.ensures.0, event-length a.form a.token a.entry (form-length a.form a.entry d p) b c.least-n.result c.least-n.ensures))
+    (omega (arith, c.if-buf-rest.true, c.time_length.ensures.0, event-length a.form a.token a.entry (form-length a.form a.entry d p) b c.min-n.result c.min-n.ensures))
 
 pub returns : goal.returns
 returns c = let a = c.args in
@@ -22,8 +22,8 @@ returns c = let a = c.args in
     let p : length a.entry.published ≡ published_length = search (rules, c.well_formed) in
     let b : length a.entry.body ≡ body_capacity = search (rules, c.well_formed) in
     let t = form-length a.form a.entry d p in
-    let fits : length (event_element a.form a.token a.entry) ≤ length a.buf.now = omega (arith, c.if-buf-rest.false, c.time_length.ensures.0, event-length a.form a.token a.entry t b _ c.least-n.ensures) in
+    let fits : length (event_element a.form a.token a.entry) ≤ length a.buf.now = omega (arith, c.if-buf-rest.false, c.time_length.ensures.0, event-length a.form a.token a.entry t b _ c.min-n.ensures) in
     put_long fits
-    (put-event_parts a.form a.token a.entry t b _ c.least-n.ensures a.buf.now _
-    fits (rw (← c.time_length.ensures.0) c.head_of-head.ensures)
+    (put-event_parts a.form a.token a.entry t b _ c.min-n.ensures a.buf.now _
+    fits (rw (← c.time_length.ensures.0) c.octets-octets.ensures)
     _ _ c.put-behind_head.ensures _ _ c.put_time-behind_time.ensures _ _ c.put.ensures)

@@ -5,4 +5,4 @@ use Rattle.laws.proofs.Arrays.{take_within}
 use Rattle.reports.proofs.put_list.Goals as goal
 
 pub returns : goal.returns
-returns c = rw (← take_within c.args.list.now _ _ refl 252 c.least.ensures) c.put_report.ensures
+returns c = rw (← take_within c.args.list.now _ _ refl 252 c.min.ensures) c.put_report.ensures

@@ -6,10 +6,10 @@ use Rattle.reports.proofs.Laws.{put_short, put_long, put_two, element_parts, ele
 use Rattle.reports.proofs.put_report.Goals as goal
 
 pub returns-then-buf-rest : goal.returns-then-buf-rest
-returns-then-buf-rest c = let a = c.args in put_short (omega (arith, c.if-buf-rest.true, element-length a.kind a.token a.ty a.status a.rest.now))
+returns-then-buf-rest c = let a = c.args in put_short (omega (arith, c.if-buf-rest.true, element-length a.head.kind a.head.token a.head.ty a.head.status a.rest.now))
 
 pub returns : goal.returns
 returns c = let a = c.args in
-    let fits : length (report_element a.kind a.token a.ty a.status a.rest.now) ≤ length a.buf.now = omega (arith, c.if-buf-rest.false, element-length a.kind a.token a.ty a.status a.rest.now) in
+    let fits : length (report_element a.head.kind a.head.token a.head.ty a.head.status a.rest.now) ≤ length a.buf.now = omega (arith, c.if-buf-rest.false, element-length a.head.kind a.head.token a.head.ty a.head.status a.rest.now) in
     put_long fits
-    (put_two _ a.buf.now fits c.head_of-head.result a.rest.now (element_parts a.kind a.token a.ty a.status a.rest.now ∙ rw c.head_of-head.ensures) _ _ c.put-behind_head.ensures _ _ c.put.ensures)
+    (put_two _ a.buf.now fits c.octets-octets.result a.rest.now (element_parts a.head.kind a.head.token a.head.ty a.head.status a.rest.now ∙ rw c.octets-octets.ensures) _ _ c.put-behind_head.ensures _ _ c.put.ensures)

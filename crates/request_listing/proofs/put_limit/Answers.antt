@@ -7,8 +7,8 @@ use Rattle.request_listing.proofs.put_limit.Goals as goal
 
 pub returns-in-Event : goal.returns-in-Event
 unfolding limit_field
-returns-in-Event c = rw c.in-Event.is (at_most 14 (omega arith) (short c.put_field.ensures))
+returns-in-Event c = rw c.in-Event.is (at_most 14 (omega arith) (short c.field.ensures))
 
 pub returns-in-Diagnostic : goal.returns-in-Diagnostic
 unfolding limit_field
-returns-in-Diagnostic c = rw c.in-Diagnostic.is (short c.put_field-in-Diagnostic.ensures)
+returns-in-Diagnostic c = rw c.in-Diagnostic.is (short c.field-in-Diagnostic.ensures)

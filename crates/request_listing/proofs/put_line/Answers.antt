@@ -6,4 +6,4 @@ use Rattle.request_listing.proofs.put_line.Goals as goal
 
 pub returns : goal.returns
 unfolding request_element_line
-returns c = both (both (both (rw c.request_id.ensures at c.put_element_head-next.ensures) c.put_limit-next.ensures) (short c.put_field-next.ensures)) (one c.put.ensures)
+returns c = both (both (both (rw c.request_id.ensures at c.element_head.ensures) c.put_limit.ensures) (short c.field.ensures)) (one c.put.ensures)

@@ -15,8 +15,8 @@ returns-in-Ok c = let r = c.in-Ok.q in
     let there : length r.elements ≡ element_capacity = search (rules, length_mapped) in
     let listed = take_within r.elements element_capacity _ there r.count c.min.ensures in
     let few : element_most * length (take r.count r.elements) ≤ element_most * element_capacity = omega (arith, length-take r.count r.elements, there) in
-    rw c.in-Ok.is (both (rw c.request_action-action.ensures at c.put_frame-next.ensures) (at_most _ few (rw listed at c.put_lines.ensures)))
+    rw c.in-Ok.is (both (rw c.request_action.ensures at c.frame.ensures) (at_most _ few (rw listed at c.put_lines.ensures)))
 
 pub returns-in-Err : goal.returns-in-Err
 unfolding request_listing when◌then◌else◌
-returns-in-Err c = rw (c.in-Err.is, ne_eqb _ 0 (some_number c.in-Err.refusal.cause)) (at_most request_listing_most (omega arith) (short c.put_refusal.ensures))
+returns-in-Err c = rw (c.in-Err.is, ne_eqb _ 0 (some_number c.in-Err.refusal.cause)) (at_most request_listing_most (omega arith) (short c.refusal.ensures))

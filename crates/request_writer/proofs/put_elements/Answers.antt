@@ -6,7 +6,7 @@ use Rattle.request_writer.proofs.Writing.{laying_start, laying_bad, laying_next,
 use Rattle.request_writer.proofs.put_elements.Goals as goal
 
 pub loop-i-init : goal.loop-i-init
-loop-i-init c = laying_start _ _ _ _ (search (rules, length_mapped)) c.requires
+loop-i-init c = laying_start _ _ _ _ (search (rules, length_mapped)) c.told-buf
 
 pub returns-then-i-ge-ELEMENT_CAPACITY-clause-answer : goal.returns-then-i-ge-ELEMENT_CAPACITY-clause-answer
 returns-then-i-ge-ELEMENT_CAPACITY-clause-answer c = rw c.at.ensures (laying_ninth c.loop-i.invariant c.loop-i-test.true c.if-i-ge-ELEMENT_CAPACITY.true)

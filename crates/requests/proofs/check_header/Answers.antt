@@ -1,6 +1,6 @@
 -- `requests::check_header` meets its contract: each return rewrites with the tests that led there.
 -- Assumes nothing.
-use Rattle.std.proofs.Common.{sym, ◌∙◌, eq-eqb, ne_eqb}
+use Rattle.std.proofs.Common.{eq-eqb, ne_eqb}
 use Rattle.std.proofs.lemmas.Result.{err_from_is_err_and}
 use Rattle.laws.specs.Choice.{when◌then◌else◌}
 use Rattle.octets.proofs.RefusalLaws.{some_number}

@@ -23,9 +23,6 @@ loop-w-preserved-then-want-eq0 c = passed_over c.loop-w.invariant c.loop-w-test.
 pub returns-then-n-want : goal.returns-then-n-want
 returns-then-n-want c = refused-length c.loop-w.invariant c.loop-w-test.true (at_place c.in-Some.ensures).is (at_place c.in-Some.ensures).some c.size-id.ensures.0 c.octet.ensures c.length_of-want.ensures c.if-want-eq0.false c.size-n.ensures.0 c.if-n-want.true (rw c.at-then-n-want.ensures)
 
-pub bounds-w-id : goal.bounds-w-id
-bounds-w-id c = omega (arith, c.loop-w.invariant.five, known c.loop-w.invariant c.loop-w-test.true (at_place c.in-Some.ensures).is (at_place c.in-Some.ensures).some c.size-id.ensures.0 c.octet.ensures c.length_of-want.ensures c.if-want-eq0.false)
-
 pub returns-then-old : goal.returns-then-old
 returns-then-old c = refused_repeat c.loop-w.invariant c.loop-w-test.true (at_place c.in-Some.ensures).is (at_place c.in-Some.ensures).some c.size-id.ensures.0 c.octet.ensures c.length_of-want.ensures c.if-want-eq0.false c.size-n.ensures.0 c.if-n-want.false c.if-old.true (rw c.at-then-old.ensures)
 

@@ -2,14 +2,8 @@
 -- Assumes nothing.
 use Rattle.std.proofs.Common.{◌+◌, ◌-◌, refl, sym, ap, ◌∙◌, arith, length, take, drop}
 use Rattle.laws.specs.Buffers.{wrote}
-use Rattle.laws.proofs.Buffers.{put_at-fits, put_at-short, copied, lent_tail}
+use Rattle.laws.proofs.Buffers.{put_at-fits, copied, lent_tail}
 use Rattle.octets.proofs.buffers.put.Goals as goal
-
-pub returns-then-buf-at : goal.returns-then-buf-at
-returns-then-buf-at c = sym (put_at-short _ _ _ (omega arith))
-
-pub returns-then-buf-at-2 : goal.returns-then-buf-at-2
-returns-then-buf-at-2 c = sym (put_at-short _ _ _ (omega arith))
 
 pub returns : goal.returns
 returns c = let a = c.args in

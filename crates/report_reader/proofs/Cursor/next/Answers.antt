@@ -7,10 +7,6 @@ use Rattle.report_reader.specs.Reader.{cursor_step}
 use Rattle.report_reader.proofs.Laws.{step-told, step_fits, refused_held, refused_told}
 use Rattle.report_reader.proofs.Cursor.next.Goals as goal
 
-pub returns-then-not-is_form : goal.returns-then-not-is_form
-unfolding cursor_step when◌then◌else◌
-returns-then-not-is_form c = rw (← c.is_form.ensures, c.if-not-is_form.true, c.at.ensures)
-
 pub returns-in_err-outline : goal.returns-in_err-outline
 unfolding cursor_step when◌then◌else◌
 returns-in_err-outline c = let a = c.args in
@@ -18,9 +14,6 @@ returns-in_err-outline c = let a = c.args in
     let r = c.in_err-outline.field-0.0 in
     rw (p.1, p.2, ← c.is_form.ensures, c.if-not-is_form.false)
     (refused_told a.form a.s.now a.kind a.self.at r _ (refused_held a.form a.s.now a.kind a.self.at r _ c.in_err-outline.ensures) (step-told a.form a.s.now a.kind a.self.at))
-
-pub validate_held-requires : goal.validate_held-requires
-validate_held-requires c = c.in_ok-outline.ensures.stands
 
 pub returns-in_err-v : goal.returns-in_err-v
 unfolding cursor_step when◌then◌else◌

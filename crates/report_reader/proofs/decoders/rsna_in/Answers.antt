@@ -1,14 +1,10 @@
 -- `report_reader::decoders::rsna_in` meets its contract: its fields up to the RSN element are read of as many octets as they have at most.
 -- Assumes nothing.
-use Rattle.std.proofs.Common.{◌≡◌, refl, ap, ◌∙◌, length, rules}
+use Rattle.std.proofs.Common.{◌≡◌, ap, ◌∙◌, length, rules}
 use Rattle.octets.specs.Fields.{octets_at}
 use Rattle.events.specs.RsnaEvents.{rsn_element_of}
 use Rattle.report_reader.proofs.DecoderLaws.{rsna-read}
 use Rattle.report_reader.proofs.decoders.rsna_in.Goals as goal
-
-pub pad-requires : goal.pad-requires
-unfolding octets_at
-pad-requires c = refl
 
 pub returns : goal.returns
 returns c = let l : length c.pad.new.blank ≡ 19 = search rules in

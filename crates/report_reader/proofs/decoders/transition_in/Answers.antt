@@ -1,13 +1,9 @@
 -- `report_reader::decoders::transition_in` meets its contract: its body is read of as many octets as it has.
 -- Assumes nothing.
-use Rattle.std.proofs.Common.{◌≡◌, refl, ap, ◌∙◌, length, rules}
+use Rattle.std.proofs.Common.{◌≡◌, ap, ◌∙◌, length, rules}
 use Rattle.octets.specs.Fields.{octets_at}
 use Rattle.report_reader.proofs.DecoderLaws.{transition-read}
 use Rattle.report_reader.proofs.decoders.transition_in.Goals as goal
-
-pub pad-requires : goal.pad-requires
-unfolding octets_at
-pad-requires c = refl
 
 pub returns : goal.returns
 returns c = let l : length c.pad.new.blank ≡ 21 = search rules in

@@ -10,4 +10,4 @@ loop-i-preserved c = fill_back c.loop-i.invariant c.loop-i-test.true past_elemen
 
 pub returns : goal.returns
 unfolding diagnostics_of
-returns c = let F = c.loop-i.invariant in (fill_end F c.loop-i-test.false _ c.least-end.ensures, F.few)
+returns c = fill_end c.loop-i.invariant c.loop-i-test.false _ c.min-end.ensures

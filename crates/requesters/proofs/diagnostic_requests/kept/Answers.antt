@@ -14,8 +14,8 @@ pub loop-i-preserved : goal.loop-i-preserved
 loop-i-preserved c = let l = c.loop-i in
     let d = c.args.d in
     let t = c.args.now.0 in
-    let n = c.least-end.result in
-    let size = length-within d.elements 8 n l.invariant.3 d.count c.least-end.ensures in
+    let n = c.min-end.result in
+    let size = length-within d.elements 8 n l.invariant.3 d.count c.min-end.ensures in
     let x = get_or d.elements l.i past_diagnostics in
     let front = take c.if-not-is_late.count c.if-not-is_late.elements in
     let few : (c.if-not-is_late.count ≤ l.i + 1) × (c.if-not-is_late.count ≤ element_capacity) × (length c.if-not-is_late.elements ≡ element_capacity) × (front ≡ take l.count l.elements ++ on_time elapsed_since t d.accepted.0 (x ∷ [])) =
@@ -33,6 +33,6 @@ pub returns : goal.returns
 returns c = let l = c.loop-i in
     let a = c.args in
     let d = a.d in
-    let n = c.least-end.result in
-    let size = length-within d.elements 8 n l.invariant.3 d.count c.least-end.ensures in
-    (on_time_end elapsed_since a.now.0 d.accepted.0 (take n d.elements) l.i (take l.count l.elements) _ (omega arith) l.invariant.5 ∙ ap (λ (x : List Diagnostic). on_time elapsed_since a.now.0 d.accepted.0 (drop d.first x)) (take_within d.elements 8 n l.invariant.3 d.count c.least-end.ensures), l.invariant.1)
+    let n = c.min-end.result in
+    let size = length-within d.elements 8 n l.invariant.3 d.count c.min-end.ensures in
+    on_time_end elapsed_since a.now.0 d.accepted.0 (take n d.elements) l.i (take l.count l.elements) _ (omega arith) l.invariant.5 ∙ ap (λ (x : List Diagnostic). on_time elapsed_since a.now.0 d.accepted.0 (drop d.first x)) (take_within d.elements 8 n l.invariant.3 d.count c.min-end.ensures)

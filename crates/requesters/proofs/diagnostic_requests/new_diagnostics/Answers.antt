@@ -11,4 +11,4 @@ returns-then-asks_cancel c = rw (← c.asks_cancel.ensures, c.if-asks_cancel.tru
 
 pub returns : goal.returns
 unfolding new_diagnostics when◌then◌else◌
-returns c = rw (← c.asks_cancel.ensures, c.if-asks_cancel.false, ← c.diagnostics_of.ensures.0) c.request_of.ensures
+returns c = rw (← c.asks_cancel.ensures, c.if-asks_cancel.false, ← c.diagnostics_of.ensures) c.request_of.ensures

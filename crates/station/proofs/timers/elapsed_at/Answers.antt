@@ -1,6 +1,6 @@
 -- `station::timers::elapsed_at` meets its contract.
 -- Assumes nothing.
-use borrow.Author.Tests.{not-true, not-false}
+use Rattle.std.proofs.lemmas.Bool.{not-true, not-false}
 use Rattle.laws.specs.Choice.{when◌then◌else◌}
 use Rattle.model.specs.Clocks.{elapsed_at}
 use Rattle.station.specs.Views.{view_timer}

@@ -3,8 +3,13 @@
 use Rattle.std.proofs.Common.{arith, rules, sym, eq-eqb, ne_eqb, lt-ltb, le-ltb}
 use Rattle.laws.specs.Choice.{when◌then◌else◌}
 use Rattle.traces.specs.Elements.{condition_end, traced_condition, with_condition}
-use Rattle.traces.proofs.WalkLaws.{is_found, some_found, none_found}
+use Rattle.traces.proofs.WalkLaws.{condition-none, is_found, some_found, none_found}
 use Rattle.traces.proofs.elements.with_condition.Goals as goal
+
+pub returns-in_err-behind : goal.returns-in_err-behind
+unfolding with_condition
+returns-in_err-behind c = let w = c.args.w in
+    rw (condition-none c.args.s.now c.args.ty w.end w.least (none_found _ c.in_err-behind.ensures.place)) (search rules)
 
 pub returns-then-id-w : goal.returns-then-id-w
 unfolding with_condition condition_end when◌then◌else◌

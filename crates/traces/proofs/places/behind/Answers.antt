@@ -3,8 +3,11 @@
 use Rattle.laws.specs.Choice.{when◌then◌else◌}
 use Rattle.std.proofs.Common.{arith, ◌+◌, length, ne_eqb, le-ltb, sym}
 use Rattle.traces.specs.Places.{place_behind_record}
-use Rattle.traces.proofs.WalkLaws.{behind-past, is_found}
+use Rattle.traces.proofs.WalkLaws.{behind-past, behind-none, is_found}
 use Rattle.traces.proofs.places.behind.Goals as goal
+
+pub returns-then-at-eq0-clause-place : goal.returns-then-at-eq0-clause-place
+returns-then-at-eq0-clause-place c = let a = c.args in rw (c.if-at-eq0.true, behind-none a.s.now a.n)
 
 pub returns-then-s-at-clause-place : goal.returns-then-s-at-clause-place
 returns-then-s-at-clause-place c = let a = c.args in rw (behind-past a.s.now a.at a.n (omega arith))

@@ -6,4 +6,4 @@ use Rattle.traces.proofs.text.put_line.Goals as goal
 
 pub returns : goal.returns
 unfolding number_line
-returns c = both (short c.put_field-next.ensures) (one c.put.ensures)
+returns c = both (short c.field.ensures) (one c.put.ensures)

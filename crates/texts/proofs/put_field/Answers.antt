@@ -1,7 +1,0 @@
--- `texts::put_field` meets its contract.
--- Assumes nothing.
-use Rattle.texts.proofs.NumberLaws.{named_put}
-use Rattle.texts.proofs.put_field.Goals as goal
-
-pub returns : goal.returns
-returns g c = rw (← c.wide.ensures.same) (named_put _ _ _ _ _ _ _ c.wide.ensures.few g.met.N.Number.some c.put_number.ensures)
