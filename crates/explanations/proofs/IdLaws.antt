@@ -7,7 +7,8 @@ use Rattle.laws.specs.Walk.{repeat_while}
 use Rattle.laws.specs.Members.{Among, first, later}
 use Rattle.laws.proofs.Choice.{either, never}
 use Rattle.laws.proofs.Members.{among_none}
-use Rattle.laws.proofs.Walk.{keeps_while, and_first, and_second}
+use Rattle.std.proofs.lemmas.Bool.{and_parts}
+use Rattle.laws.proofs.Walk.{keeps_while}
 use Rattle.octets.specs.Elements.{piece_end}
 use Rattle.octets.specs.Refusals.{no_refusal, bad_subelement, repeated_subelement}
 use Rattle.subelements.specs.declared.Condition.{Condition}
@@ -38,7 +39,7 @@ module _ (s : List ℕ) (ty end : ℕ) where
   refused-stays : (k : ℕ) (w : Subelements) → (w.refusal.number ≡ 0 → ⊥) → (repeat_while k (more_subelements end) (subelement_step s ty end) w).refusal.number ≡ 0 → ⊥
   refused-stays k w n =
       keeps_while (λ w. w.refusal.number ≡ 0 → ⊥) (more_subelements end) (subelement_step s ty end)
-      (λ v m z. absurd (z (eqb-true _ 0 (and_first (eqb v.refusal.number 0) (ltb v.at end) m)))) k w n
+      (λ v m z. absurd (z (eqb-true _ 0 (and_parts (eqb v.refusal.number 0) (ltb v.at end) m).0))) k w n
 
   abbrev present : List Condition → ℕ → Bool
   present filter i = (get_or filter i past_filter).present
@@ -98,7 +99,7 @@ module _ (s : List ℕ) (ty end : ℕ) where
     where
       go : (b : Bool) → more_subelements end w ≡ b → (ltb w.at end ≡ true → Covers i w (condition_ids (suc k) s ty w.at end) (ending k (subelement_step s ty end w)))
           → Covers i w (condition_ids (suc k) s ty w.at end) (elim b [ true ↦ ending k (subelement_step s ty end w) | false ↦ w ])
-      go true m f = f (and_second (eqb w.refusal.number 0) (ltb w.at end) m)
+      go true m f = f (and_parts (eqb w.refusal.number 0) (ltb w.at end) m).1
       go false m f = λ z h. inl h
 
 -- a filter with no condition

@@ -2,14 +2,10 @@
 -- Assumes nothing.
 use Rattle.std.proofs.Common.{◌≡◌, ℕ, zero, suc, ◌<◌, List, [], ◌∷◌, map, length, get_or, refl, ap₂, arith}
 use Rattle.firmware.specs.declared.RequestElement.{RequestElement}
-use Rattle.requests.specs.declared.Element.{Element}
 
--- what stands past the elements' end: the defaults that the logic reads there
+-- what stands past the end of elements handed in: the default that the logic reads there
 abbrev pub past_given : RequestElement
 past_given = record { token = 0; ty = 0; timeout = 0; limit = 0; filter = [] }
-
-abbrev pub past_elements : Element
-past_elements = record { token = 0; ty = 0; timeout = 0; subs = 0; limit = 0; filter = [] }
 
 pub mapped_at : {A B : Type 0} (f : A → B) (d : A) (e : B) (xs : List A) (ys : List B) → length ys ≡ length xs
     → ((i : ℕ) → i < length xs → get_or ys i e ≡ f (get_or xs i d)) → ys ≡ map f xs

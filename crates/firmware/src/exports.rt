@@ -24,7 +24,8 @@ fn left(g: &mut Station, after: station::Outcome) -> Reply
 }
 
 // The same of a frame and a report, of which what they change is stored alone: the compiler cannot tell that
-// a lent buffer lies outside the station, and would copy the log out and back.
+// a lent buffer lies outside the station, and would copy the log out and back. The requesters go through a variable:
+// an array is not stored straight from a field, which the toolchain's borrow checker does not cover.
 fn left_changed(g: &mut Station, after: Changed) -> Reply
     ensures { (buffer : List ℕ) → left_with g.new result buffer ≡ numbered (view_outcome (changed_outcome g.old after) buffer) }
 {

@@ -21,8 +21,23 @@ pub extern "C" fn dultxibe_write_request(q: Request, buf: &mut [u8]) -> Reply
     ensures { write result buf.new ≡ numbered_write (write_request (kind_of q.kind) q.dialog (map element_from q.elements) q.count buf.old) }
 {
     let elements = elements_of(q.elements);
-    Reply::from(write_request(Kind::from(q.kind), q.dialog, elements, q.count, buf))
+    let request = requests::Request {
+        kind: Kind::from(q.kind),
+        dialog: q.dialog,
+        count: q.count,
+        elements,
+    };
+    Reply::from(write_request(request, buf))
 }
+
+// A report of zeros: what a refused one or one that is read does not have.
+const NO_REPORT: Report = Report {
+    cause: 0,
+    kind: 0,
+    dialog: 0,
+    place: 0,
+    count: 0,
+};
 
 impl From<Result<report_reader::Report, Refusal>> for Report {
     ghost from_gives = { λ r report. report ≡ numbered_report (report_read r) };
@@ -30,18 +45,15 @@ impl From<Result<report_reader::Report, Refusal>> for Report {
     fn from(r: Result<report_reader::Report, Refusal>) -> Report {
         match r {
             Ok(report) => Report {
-                cause: 0,
                 kind: u8::from(report.kind),
                 dialog: report.dialog,
-                place: 0,
                 count: report.count,
+                ..NO_REPORT
             },
             Err(refusal) => Report {
                 cause: refusal.cause.number(),
-                kind: 0,
-                dialog: 0,
                 place: refusal.place,
-                count: 0,
+                ..NO_REPORT
             },
         }
     }
@@ -57,6 +69,16 @@ const NO_ELEMENT: ReportElement = ReportElement {
     subs: 0,
 };
 
+// A step of zeros, likewise.
+const NO_STEP: Step = Step {
+    cause: 0,
+    found: 0,
+    place: 0,
+    rest: 0,
+    next: 0,
+    element: NO_ELEMENT,
+};
+
 impl From<report_reader::Step> for Step {
     ghost from_gives = { λ t step. step ≡ numbered_step (step_given t.found t.next) };
 
@@ -64,21 +86,13 @@ impl From<report_reader::Step> for Step {
         let next = step.next.at;
         match step.found {
             Some(f) => Step {
-                cause: 0,
                 found: 1,
-                place: 0,
                 rest: f.rest,
                 next,
                 element: ReportElement::from(f.element),
+                ..NO_STEP
             },
-            None => Step {
-                cause: 0,
-                found: 0,
-                place: 0,
-                rest: 0,
-                next,
-                element: NO_ELEMENT,
-            },
+            None => Step { next, ..NO_STEP },
         }
     }
 }
@@ -91,11 +105,8 @@ impl From<Result<report_reader::Step, Refusal>> for Step {
             Ok(step) => Step::from(step),
             Err(refusal) => Step {
                 cause: refusal.cause.number(),
-                found: 0,
                 place: refusal.place,
-                rest: 0,
-                next: 0,
-                element: NO_ELEMENT,
+                ..NO_STEP
             },
         }
     }

@@ -8,34 +8,34 @@ use crate::Reply;
 use octets::Refusal;
 use requesters::Answer;
 
+// An accepted call's answer; others differ from it in what they have.
+const ACCEPTED: Reply = Reply {
+    code: 0,
+    cause: 0,
+    place: 0,
+    length: 0,
+};
+
 impl From<Answer> for Reply {
     ghost from_gives = { λ answer reply. reply ≡ reply_to (view_answer answer) };
 
     fn from(answer: Answer) -> Reply {
         match answer {
-            Answer::Accepted => Reply {
-                code: 0,
-                cause: 0,
-                place: 0,
-                length: 0,
-            },
+            Answer::Accepted => ACCEPTED,
             Answer::Nothing => Reply {
                 code: 1,
-                cause: 0,
-                place: 0,
-                length: 0,
+                ..ACCEPTED
             },
             Answer::Length(length) => Reply {
                 code: 2,
-                cause: 0,
-                place: 0,
                 length,
+                ..ACCEPTED
             },
             Answer::Refused(refusal) => Reply {
                 code: 3,
                 cause: refusal.cause.number(),
                 place: refusal.place,
-                length: 0,
+                ..ACCEPTED
             },
         }
     }

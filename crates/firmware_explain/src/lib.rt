@@ -41,7 +41,7 @@ impl Explanation {
 impl From<explanations::Explanation> for Explanation {
     ghost from_gives = { λ e numbers. numbers ≡ numbered_explanation (reason_given e) };
 
-    // No step is chosen: each arm is a reason's number, and one has a condition.
+    // Each case has its number; one has a condition besides.
     fn from(e: explanations::Explanation) -> Explanation {
         match e {
             explanations::Explanation::LoggedAfter => Explanation::plain(1),

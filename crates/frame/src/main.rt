@@ -1,11 +1,14 @@
 // Document 01's frame program: lists one request frame, read from standard input.
 #![tactic(auto)]
 
+use octets::numbers::LONGEST_FRAME;
 use request_listing::list_frame;
 use stdio::print_for_input;
 
+// One octet more than the longest frame has, so that a longer input is seen to be longer.
+const INPUT: usize = LONGEST_FRAME + 1;
+
+// Beside `report`: each has its own length and its own text of an input.
 fn main(rt: HostRuntime) {
-    // One octet more than the longest frame has, so that a longer input is seen to be longer. That number and what
-    // is said of the input are all that this program and `report` have of their own.
-    print_for_input(&rt, [0u8; 2305], list_frame);
+    print_for_input(&rt, [0u8; INPUT], list_frame);
 }

@@ -1,10 +1,10 @@
 -- Laws of arrays: of structs, filled from the front or from the back, and mapped in place.
 -- Assumes nothing.
-use Rattle.std.proofs.Common.{ℕ, zero, suc, ◌+◌, ◌-◌, ◌≤◌, ◌<◌, min, ◌≡◌, refl, sym, ap, ◌∙◌, Bool, true, false, List, [], ◌∷◌, ◌++◌, map, append_assoc, append-nil, add-one, add-zero, le_of_suc-le-suc, not-suc-le-zero, arith, leb, length, get_or, take, drop, set, length-take, length-set, drop_of_length-le, drop-cons, take-suc, take_all, take_at, drop-set-lt, get_or-set_same, get_or-take, get_or-append-add, get_or-drop, leb-true, leb-false}
+use Rattle.std.proofs.Common.{ℕ, zero, suc, ◌+◌, ◌-◌, ◌≤◌, ◌<◌, min, ◌≡◌, refl, sym, ap, ◌∙◌, List, [], ◌∷◌, ◌++◌, map, append_assoc, append-nil, add-one, add-zero, le_of_suc-le-suc, not-suc-le-zero, arith, length, get_or, take, drop, set, length-take, length-set, drop_of_length-le, drop-cons, take-suc, take_all, drop-set-lt, get_or-set_same, get_or-take, get_or-append-add, get_or-drop}
 use Rattle.std.proofs.Math.Option.{none, some}
 use Rattle.std.proofs.Math.ListN.{get_elem?, length-map}
 use Rattle.std.proofs.Math.Seq.{take-set-lt, set_at, get_or_at, append_snoc}
-use Rattle.std.proofs.lemmas.List.{map-append, take-map, take_min as taken}
+use Rattle.std.proofs.lemmas.List.{map-append, take_min as taken}
 
 -- ---- structs: what owning an array of them tells of its length
 pub length_mapped : (X Y : Type 0) (f : X → Y) (l : List X) (n : ℕ) → length (map f l) ≡ n → length l ≡ n
@@ -26,11 +26,6 @@ module _ {A : Type 0} (done blank : List A) (d : A) (n : ℕ) (e : length done �
       ∙ get_or-drop n blank 0 d
       ∙ ap (λ (k : ℕ). get_or blank k d) (add-zero n)
 
--- ---- map of parts
-module _ {A B : Type 0} (f : A → B) where
-  pub map-take : (n : ℕ) (l : List A) → map f (take n l) ≡ take n (map f l)
-  map-take n l = sym (take-map f n l)
-
 -- ---- a loop that maps an array in place: the first i are mapped
 module _ {A : Type 0} (f : A → A) (l : List A) where
   abbrev pub mapped : ℕ → List A
@@ -43,26 +38,6 @@ module _ {A : Type 0} (f : A → A) (l : List A) where
       let d = drop-cons l i z h in
       rw (e, d, get_or_at p (get_or l i z) (drop (suc i) l) z i lp, set_at p (get_or l i z) (drop (suc i) l) (f (get_or l i z)) i lp, add-one, take-suc l i z h, map-append f (take i l) (get_or l i z ∷ []))
       (sym (append_assoc p (f (get_or l i z) ∷ []) (drop (suc i) l)))
-
-  mapped_all : (n : ℕ) → length l ≡ n → mapped n ≡ map f l
-  mapped_all n h = rw (take_all n l (omega arith), drop_of_length-le l {i = n} (omega arith)) (append-nil (map f l))
-
-  -- the first n of an array whose first n are mapped, or all where n passes its end
-  pub mapped_first : (n m end : ℕ) → length l ≡ m → end ≡ min n m → take n (mapped end) ≡ map f (take n l)
-  mapped_first n m end e h = go (leb n m) refl
-    where
-      size : length (map f (take end l)) ≡ end
-      size = length-map (take end l) f ∙ length-take end l ∙ omega arith
-
-      go : (b : Bool) → leb n m ≡ b → take n (mapped end) ≡ map f (take n l)
-      go true t =
-          let p = leb-true n m t in
-          let q : end ≡ n = omega arith in
-          take_at (map f (take end l)) (drop end l) n (size ∙ q) ∙ ap (λ (k : ℕ). map f (take k l)) q
-      go false t =
-          let p = leb-false n m t in
-          let q : end ≡ m = omega arith in
-          rw (q, mapped_all m e) (take_all n (map f l) (omega (arith, length-map l f)) ∙ ap (map f) (sym (take_all n l (omega arith))))
 
 -- ---- the first places
 

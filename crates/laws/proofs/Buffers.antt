@@ -64,10 +64,6 @@ module _ (o : List ℕ) (at : ℕ) (s : List ℕ) where
   unfolding put_at when◌then◌else◌
   put_at-fits h = rw (le-leb (at + length o) (length s) h)
 
-  pub put_at-short : length s < at + length o → put_at o at s ≡ wrote at s
-  unfolding put_at when◌then◌else◌
-  put_at-short h = rw (lt-leb (at + length o) (length s) h)
-
 -- ---- the invariant of a run of writers that write `whole` over s: buf has the octets before `at`, `rest` is to come
 pub record Putting (whole s buf : List ℕ) (at : ℕ) (rest : List ℕ) : Type 0 where
   pub head : List ℕ

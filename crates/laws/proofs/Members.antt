@@ -1,9 +1,9 @@
 -- Laws of what stands in a list, and of what holds of all that stands in it.
 -- Assumes nothing.
-use Rattle.std.proofs.Common.{ℕ, zero, suc, ◌≤◌, ◌≡◌, refl, Bool, true, false, ◌&&◌, ◌||◌, List, [], ◌∷◌, ◌++◌, map, eqb, leb, set, take, eqb-true, leb-true}
+use Rattle.std.proofs.Common.{ℕ, zero, suc, ◌≤◌, ◌≡◌, refl, Bool, true, false, ◌&&◌, ◌||◌, List, [], ◌∷◌, ◌++◌, map, eqb, leb, take, eqb-true, leb-true}
 use Rattle.laws.specs.Members.{Among, first, later, All, nil, also}
 use Rattle.laws.proofs.Choice.{never}
-use Rattle.laws.proofs.Walk.{and_first, and_second}
+use Rattle.std.proofs.lemmas.Bool.{and_parts}
 
 -- ---- one
 
@@ -43,8 +43,8 @@ are_at_most k (m ∷ ms) = leb m k && are_at_most k ms
 
 pub among_at_most : (k n : ℕ) (ms : List ℕ) → are_at_most k ms ≡ true → Among n ms → n ≤ k
 among_at_most k n [] e h = elim h [ ]
-among_at_most k n (m ∷ ms) e first = leb-true m k (and_first (leb m k) (are_at_most k ms) e)
-among_at_most k n (m ∷ ms) e (later h) = among_at_most k n ms (and_second (leb m k) (are_at_most k ms) e) h
+among_at_most k n (m ∷ ms) e first = leb-true m k (and_parts (leb m k) (are_at_most k ms) e).0
+among_at_most k n (m ∷ ms) e (later h) = among_at_most k n ms (and_parts (leb m k) (are_at_most k ms) e).1 h
 
 -- ---- all
 

@@ -1,8 +1,12 @@
 -- Laws of a test of a list that is true where a test of one of its elements is. Loops look at the elements in order.
 -- Assumes nothing.
-use Rattle.std.proofs.Common.{ℕ, zero, suc, ◌+◌, ◌≤◌, ◌<◌, ◌≡◌, refl, sym, ap, ◌∙◌, Bool, true, false, ◌||◌, List, [], ◌∷◌, length, get_or, take, drop, drop_of_length-le, drop-cons, add-one, arith}
-use Rattle.std.proofs.Math.Bool.{or-false, or_assoc}
-use Rattle.std.specs.List.{list_any}
+use Rattle.std.proofs.Common.{ℕ, zero, suc, ◌+◌, ◌≤◌, ◌<◌, ◌≡◌, refl, sym, ap, ◌∙◌, Bool, true, false, ◌||◌, List, [], ◌∷◌, length, get_or, drop, drop_of_length-le, drop-cons, add-one, arith}
+use Rattle.std.proofs.lemmas.Iterator.{YieldsList}
+use Rattle.std.proofs.lemmas.Iterator.Search.{any_from_yields_List}
+use Rattle.std.specs.Prelude.{⊤, Option, MatchOption}
+use Rattle.std.specs.Fn.{Mut, Called}
+use Rattle.std.specs.Iterator.{YieldsThen}
+use Rattle.std.specs.List.{list_any, FoldsTo}
 use Rattle.laws.specs.Members.{any}
 
 -- `Some-of` tests a list by `one`, which may look at the elements behind the one that it tests
@@ -48,3 +52,10 @@ pub list_any_is : {A : Type 0} (test : A → Bool) (l : List A) → list_any tes
 unfolding any
 list_any_is test [] = refl
 list_any_is test (x ∷ l) = ap (λ b. test x || b) (list_any_is test l)
+
+-- what the library's `any` answers of an iterator's items, where the closure answers the test of each and stays as it is
+module _ {S A B F : Type 0} {steps : S → Option A → S → Type 0} {v : A → B} {g : Mut F (A × ⊤) Bool} {s : S} {l : List B} (test : B → Bool) (u : S) (f : F) where
+  pub any_from_items : (r : Bool)
+      → (xs : List A) × (o : Option A) × (j : F) × YieldsThen steps s xs o u × FoldsTo (λ p x q. Called g p (x, tt) false q) f xs j × MatchOption o (r ≡ false) (λ x. (r ≡ true) × ((h : F) × Called g j (x, tt) true h))
+      → YieldsList steps v s l → ((x : A) (b : Bool) (q : F) → Called g f (x, tt) b q → (q ≡ f) × (b ≡ test (v x))) → r ≡ any test l
+  any_from_items r ran items says = any_from_yields_List test u f r ran items says ∙ list_any_is test l

@@ -1,7 +1,6 @@
 -- Laws of walks. `Rest` is the invariant of every walk: what is left of it gives what the whole walk gives.
 -- Assumes nothing.
 use Rattle.std.proofs.Common.{ℕ, zero, suc, ◌≤◌, ◌<◌, ◌≡◌, refl, sym, ◌∙◌, Bool, true, false, ◌&&◌, eqb, ltb, eq-eqb, ne_eqb, lt-ltb, le-ltb, arith}
-use Rattle.std.proofs.lemmas.Bool.{and_parts}
 use Rattle.laws.specs.Walk.{repeat_while}
 
 -- with at least `left` turns of fuel, the walk from w gives `whole`
@@ -64,12 +63,6 @@ keeps_while P more step f (suc k) w p = at_test (more w) refl (λ m. keeps_while
     at_test : (b : Bool) → more w ≡ b → (more w ≡ true → P (repeat_while k more step (step w))) → P (elim b [ true ↦ repeat_while k more step (step w) | false ↦ w ])
     at_test true m x = x m
     at_test false m x = p
-
-pub and_first : (a b : Bool) → (a && b) ≡ true → a ≡ true
-and_first a b e = (and_parts a b e).0
-
-pub and_second : (a b : Bool) → (a && b) ≡ true → b ≡ true
-and_second a b e = (and_parts a b e).1
 
 -- what every step keeps, the walk keeps
 pub keeps : {A : Type 0} (P : A → Type 0) (more : A → Bool) (step : A → A) → ((w : A) → P w → P (step w)) → (k : ℕ) (w : A) → P w → P (repeat_while k more step w)

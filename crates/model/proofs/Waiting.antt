@@ -7,7 +7,7 @@ use Rattle.std.proofs.Math.Option
 use Rattle.laws.specs.Choice.{when◌then◌else◌}
 use Rattle.laws.specs.Members.{All, nil, also}
 use Rattle.laws.proofs.Choice.{either, never}
-use Rattle.laws.proofs.Walk.{and_first}
+use Rattle.std.proofs.lemmas.Bool.{and_parts}
 use Rattle.laws.proofs.Members.{all_end}
 use Rattle.octets.specs.declared.numbers.Kind.{Kind}
 use Rattle.octets.specs.declared.numbers.Kind.TheVariants.{Event, Diagnostic}
@@ -125,7 +125,7 @@ module _ (most : Capacities) (kind : Kind) (s : Address) (n : ℕ) (u : Station)
   act_fate since (report t a asked b) =
       let frames : Answer → ℕ = λ (x : Answer). when same a s && same_kind asked kind then frames_in x else 0 in
       found_fate a (give_report since u.identity u.log asked b) (give_keeps since u.identity u.log asked b) b (λ _. false) frames
-      (λ x e. (refl, either (λ (m : ℕ). m ≡ 0) _ _ _ (λ h. never (sym e ∙ and_first _ _ h)) (λ _. refl)))
+      (λ x e. (refl, either (λ (m : ℕ). m ≡ 0) _ _ _ (λ h. never (sym e ∙ (and_parts _ _ h).0)) (λ _. refl)))
       (λ e r p. rw e (give_fate since u.identity u.log b n asked kind r p)) refl (either (λ (m : ℕ). m ≡ 0) _ 0 0 (λ _. refl) (λ _. refl)) (find a u.requesters) refl
   act_fate since (roam t l) = rename_fate u.log l
   act_fate since (change t l) = rename_fate [] l

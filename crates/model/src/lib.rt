@@ -2,6 +2,11 @@
 // (demand 3), in proofs/. The code of the station meets it; here are the types that both share.
 #![tactic(auto)]
 
+ghost use Rattle.std.specs.Prelude.{◌≡◌};
+ghost use Rattle.model.specs.Diagnostics.{diagnostic_of};
+
+use requests::Element;
+
 // How many requesters a station has at most, and the last place of them.
 pub const REQUESTER_CAPACITY: usize = 4;
 
@@ -14,6 +19,18 @@ pub struct Diagnostic {
     pub token: u8,
     pub ty: u8,
     pub timeout: u16,
+}
+
+impl From<Element> for Diagnostic {
+    ghost from_gives = { λ x diagnostic. diagnostic ≡ diagnostic_of x };
+
+    fn from(x: Element) -> Diagnostic {
+        Diagnostic {
+            token: x.token,
+            ty: x.ty,
+            timeout: x.timeout,
+        }
+    }
 }
 
 // What a type number decides: report events, answer Incapable, cancel, or give the identity.

@@ -12,7 +12,8 @@ pub fn copy(o: &[u8], buf: &mut [u8]) -> usize
     o.len()
 }
 
-// Octets behind the first `at` of a buffer; the place behind them.
+// Octets behind the first `at` of a buffer; the place behind them, or `at` where they do not fit. No Option: parts
+// are put one behind the other without a test, and the place stays where one does not fit.
 #[tactic(auto, using(laws::proofs::Choice::choices), unfolding(laws::specs::Buffers::put_at))]
 pub fn put(buf: &mut [u8], at: usize, o: &[u8]) -> usize
     ensures { wrote result buf.new ≡ put_at o.now at buf.old }

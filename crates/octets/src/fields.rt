@@ -17,7 +17,7 @@ pub fn octet(s: &[u8], at: usize) -> u8
 pub fn size(s: &[u8], at: usize) -> usize
     ensures { (result ≡ get_or s.now at 0) × (result < 256) }
 {
-    octet(s, at) as usize
+    usize::from(octet(s, at))
 }
 
 // The field of two octets.
@@ -55,13 +55,13 @@ fn read_cut(s: &[u8], at: usize, out: &mut [u8])
     requires { at ≤ length s.now }
     ensures { out.new ≡ octets_at s.now at (length out.old) }
 {
-    for i in 0..out.len() {
-        out[i] = octet(s, at + i);
+    for (i, x) in out.iter_mut().enumerate() {
+        *x = octet(s, at + i);
     }
 }
 
 // The octets at a position, as many as an array takes, 0 past the end.
-pub fn read_at(s: &[u8], at: usize, out: &mut [u8])
+fn read_at(s: &[u8], at: usize, out: &mut [u8])
     ensures { out.new ≡ octets_at s.now at (length out.old) }
 {
     let from = at.min(s.len());
@@ -71,7 +71,7 @@ pub fn read_at(s: &[u8], at: usize, out: &mut [u8])
     copy(&s[from..from + out.len()], out);
 }
 
-// They, as an array.
+// The octets at a position as an array of known size, 0 past the end.
 pub fn array_at<const N: usize>(s: &[u8], at: usize) -> [u8; N]
     ensures { result ≡ octets_at s.now at N }
 {

@@ -24,16 +24,10 @@ pub fn frame_kind(s: &[u8], diagnostic: u8) -> Kind
 pub fn check_head(s: &[u8], action: u8) -> Result<(), Cause>
     ensures { number_unless result ≡ frame_cause s.now action }
 {
-    if s.len() < numbers::SHORTEST_FRAME {
+    if s.len() < numbers::SHORTEST_FRAME || numbers::LONGEST_FRAME < s.len() {
         return Err(Cause::BadFrameLength);
     }
-    if numbers::LONGEST_FRAME < s.len() {
-        return Err(Cause::BadFrameLength);
-    }
-    if octet(s, 0) != numbers::CATEGORY {
-        return Err(Cause::BadHeader);
-    }
-    if octet(s, 1) != action {
+    if octet(s, 0) != numbers::CATEGORY || octet(s, 1) != action {
         return Err(Cause::BadHeader);
     }
     Ok(())

@@ -15,7 +15,7 @@ mod times;
 pub use addresses::{address_at, is_group, same};
 pub use buffers::{copy, put};
 pub use elements::piece_end;
-pub use fields::{array_at, high, low, octet, pair, pair_at, read_at, size};
+pub use fields::{array_at, high, low, octet, pair, pair_at, size};
 pub use frames::{check_head, frame_kind};
 pub use numbers::Kind;
 pub use refusals::{Cause, Refusal};

@@ -10,47 +10,30 @@ use crate::fields::{array_at, pair};
 fn in_range(least: u16, most: u16, ones: u16, x: u16) -> bool
     ensures { result ≡ in_range least most ones x }
 {
-    if x == ones {
-        return true;
-    }
-    if x < least {
-        return false;
-    }
-    x <= most
+    x == ones || (least..=most).contains(&x)
 }
 
 fn good_date(day: u8, month: u8) -> bool
     ensures { result ≡ good_date day month }
 {
-    if !in_range(1, 31, 255, day as u16) {
-        return false;
-    }
-    in_range(1, 12, 255, month as u16)
+    in_range(1, 31, 255, u16::from(day)) && in_range(1, 12, 255, u16::from(month))
 }
 
 fn good_clock(second: u8, minute: u8, hour: u8) -> bool
     ensures { result ≡ good_clock second minute hour }
 {
-    if !in_range(0, 59, 255, second as u16) {
-        return false;
-    }
-    if !in_range(0, 59, 255, minute as u16) {
-        return false;
-    }
-    in_range(0, 23, 255, hour as u16)
+    in_range(0, 59, 255, u16::from(second))
+        && in_range(0, 59, 255, u16::from(minute))
+        && in_range(0, 23, 255, u16::from(hour))
 }
 
 // Is each field of a time in its range, or unknown?
 pub fn good_time(t: [u8; 9]) -> bool
     ensures { result ≡ good_time t }
 {
-    if !in_range(0, 999, 65535, pair(t[0], t[1])) {
-        return false;
-    }
-    if !good_clock(t[2], t[3], t[4]) {
-        return false;
-    }
-    good_date(t[5], t[6])
+    in_range(0, 999, 65535, pair(t[0], t[1]))
+        && good_clock(t[2], t[3], t[4])
+        && good_date(t[5], t[6])
 }
 
 // The time at a position, 0 past the end: `array_at` under the paper's name, with its size.

@@ -13,6 +13,7 @@ ghost use Rattle.replays.specs.Replay.{report_at, replayed, replay_trace};
 use replays::{Caller, LONGEST, Replayed, explain_at, list_at, outcome_at, replay_by, report_at};
 use request_writer::write_request;
 use requesters::Answer;
+use requests::Request;
 use station::{Outcome, Station};
 use stdio::{print, read_full};
 use traces::{
@@ -45,8 +46,14 @@ fn write(rt: &HostRuntime, s: &[u8], at: usize) {
     let c = writer_call_at(s, at);
     let mut buf = lent_buffer(c.fill, c.length);
     if let Some(e) = elements_at(s, c.kind, c.count, c.elements) {
-        let count = c.count as usize;
-        let written = write_request(c.kind, c.dialog, e.elements, count, buf.as_mut_slice());
+        let elements = e.elements;
+        let request = Request {
+            kind: c.kind,
+            dialog: c.dialog,
+            count: c.count as usize,
+            elements,
+        };
+        let written = write_request(request, buf.as_mut_slice());
         let answer = written.map_or_else(Answer::Refused, Answer::Length);
         print(rt, answer_line(answer));
         print(rt, buffer_line(&buf));
@@ -63,6 +70,7 @@ struct Printed<'a> {
     rt: &'a HostRuntime,
 }
 
+// A match on what the record is: for four kinds more than an answer is printed, or something else.
 impl Caller for Printed<'_> {
     fn call(&self, g: Station, s: &[u8], at: usize) -> Station {
         let rt = self.rt;

@@ -2,14 +2,13 @@
 // trace. Nothing is printed here. The format of the records is that of traces.
 #![tactic(auto)]
 
-ghost use Rattle.std.specs.Prelude.{◌≡◌, [], ◌≤◌, length};
+ghost use Rattle.std.specs.Prelude.{◌≡◌, []};
 ghost use Rattle.model.specs.Clocks.{elapsed_clock};
 ghost use Rattle.model.specs.Model.{standard, report as model_report};
 ghost use Rattle.model.specs.Stations.{step};
 ghost use Rattle.explanations.specs.Explanations.{explanation_read};
-ghost use Rattle.report_listing.specs.Listing.{frame_listing, report_listing_most};
+ghost use Rattle.report_listing.specs.Listing.{frame_listing};
 ghost use Rattle.station.specs.Views.{view, view_outcome};
-ghost use Rattle.traces.specs.Lines.{line_most};
 ghost use Rattle.replays.specs.Replay.{spanned, setup_at, clock_at, log_transition_at, frame_at, report_at, roam_at, change_at, log_rsna_at, log_peer_link_at, station_after, explained_at, listed_at, replayed, replay_trace, explained_line, explain_line};
 
 use arrayvec::ArrayVec;
@@ -35,7 +34,8 @@ pub struct Reported {
     pub buf: ArrayVec<u8, BUFFER>,
 }
 
-// How far the records of a trace reach, and the station after them.
+// How far the records of a trace reach, and the station after them. A place and no Result: the caller, which knows
+// where the trace ends, compares the two.
 #[derive(Clone, Copy)]
 pub struct Replayed {
     pub reached: usize,
@@ -159,8 +159,7 @@ pub fn explain_at(g: Station, s: &[u8], at: usize) -> Result<Explanation, Refusa
 
 // The text of the report frame of the record at a position.
 pub fn list_at(s: &[u8], at: usize) -> Text<LISTING>
-    ensures text { result ≡ listed_at s.now at }
-    ensures within { length result ≤ report_listing_most }
+    ensures { result ≡ listed_at s.now at }
 {
     let c = reader_call_at(s, at);
     list_report(c.form, c.destination, part(s, c.frame))
@@ -211,8 +210,7 @@ pub fn replay(s: &[u8]) -> Replayed
 // The line of a trace that is refused, or else of the explanation that the record at the front of s asks
 // for after the trace.
 fn explained_line(s: &[u8], trace: &[u8]) -> Text<LINE>
-    ensures text { result ≡ explained_line s.now trace.now }
-    ensures within { length result ≤ line_most }
+    ensures { result ≡ explained_line s.now trace.now }
 {
     let longest = Span {
         from: 0,
@@ -225,10 +223,9 @@ fn explained_line(s: &[u8], trace: &[u8]) -> Text<LINE>
     explanation_line(explain_at(r.station, s, 0))
 }
 
-// The line that explain prints of an input, a record 12 and a trace behind it.
+// The line that explain prints of an input, a record 18 (hexadecimal 12) and a trace behind it.
 pub fn explain_line(s: &[u8]) -> Text<LINE>
-    ensures text { result ≡ explain_line s.now }
-    ensures within { length result ≤ line_most }
+    ensures { result ≡ explain_line s.now }
 {
     let Some(end) = record_end(s, 0) else {
         return trace_refusal_line(0);

@@ -1,10 +1,13 @@
 // Lists one report frame from standard input: the form, six octets of destination, then the frame.
 #![tactic(auto)]
 
+use octets::numbers::LONGEST_FRAME;
 use report_listing::list_input;
 use stdio::print_for_input;
 
+// The form, the destination, the longest frame, and one octet more, so that a longer input is seen to be longer.
+const INPUT: usize = 1 + 6 + LONGEST_FRAME + 1;
+
 fn main(rt: HostRuntime) {
-    // One octet more than the longest input has, so that a longer one is seen to be longer.
-    print_for_input(&rt, [0u8; 2312], list_input);
+    print_for_input(&rt, [0u8; INPUT], list_input);
 }

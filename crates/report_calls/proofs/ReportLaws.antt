@@ -8,11 +8,8 @@ use Rattle.model.specs.declared.Treatment.{Treatment}
 use Rattle.model.specs.declared.Treatment.TheVariants.{Report, Incapable, Cancel, Identity}
 use Rattle.model.specs.Diagnostics.{diagnostic_treatment, diagnostic_report, next_diagnostic}
 use Rattle.requesters.specs.Views.{left}
+use Rattle.requesters.proofs.DiagnosticLaws.{past_diagnostics}
 use Rattle.report_calls.proofs.EventLaws.{left_next, left_none}
-
--- what stands past the elements' end: the default that the logic reads there
-abbrev pub past_diagnostics : Diagnostic
-past_diagnostics = record { token = 0; ty = 0; timeout = 0 }
 
 pub report-octets : (identity : List ℕ) (x : Diagnostic) (t : Treatment) → 0 < length (diagnostic_report identity x t)
 unfolding diagnostic_report report_element

@@ -19,8 +19,8 @@ use events::Log;
 use octets::{Cause, Kind, numbers, put};
 use requesters::{Answer, DiagnosticRequest, EventRequest, Progress, Requester, Served};
 
-// An event request after a buffer was filled from it. The diagnostic's below has another type and another field:
-// a trait over both would be longer than the two.
+// An event request after a buffer was filled from it. Two functions: the requests share a flag alone, so that a
+// trait over both, or one generic struct and its two sets of other fields, would be longer than they are.
 fn after_events(r: EventRequest, f: Filled<Progress>) -> EventRequest
     ensures { result ≡ filled_events r f }
 {
@@ -55,11 +55,10 @@ fn put_header(buf: &mut [u8], kind: Kind, dialog: u8)
     put(buf, 0, &header);
 }
 
-// An Event Report frame, in a form. The header comes last: the compiler cannot tell a lent buffer from
-// a lent station, and what is written before the log is copied would cost a copy of the log.
-// That the header fits is a clause here and below: with the buffer split into an array of three octets and the
-// rest, a report of 8 of 64 events by conditions took 7,711 instructions for 7,546, with this and its caller in
-// one function 7,599.
+// An Event Report frame, in a form. The header comes last: a write before the log is copied would cost one copy of
+// the log more, since the compiler cannot tell a lent buffer from a lent station.
+// That a buffer has 260 octets is a clause of four functions: no array type says "260 or more", and with the header
+// split off as an array, a parameter more in each, a report took 7,711 instructions for 7,546.
 fn frame_events(form: u8, log: Log, r: EventRequest, buf: &mut [u8]) -> Filled<Progress>
     requires { 260 ≤ length buf.old }
     ensures { FramedAs (next_event elapsed_since form (logged log)) (report_action Event) r.dialog (events_at r r.progress) buf.old buf.new result.wrote result.done (events_at r result.after) }
@@ -70,8 +69,8 @@ fn frame_events(form: u8, log: Log, r: EventRequest, buf: &mut [u8]) -> Filled<P
     f
 }
 
-// A Diagnostic Report frame. It has a function of its own: one for both kinds takes what fills it as a
-// closure, and says of each call of that what this one says of one.
+// A Diagnostic Report frame. Two functions: one for both kinds would take what fills the frame as a closure, and its
+// clauses would have to say of any closure what these say of one call.
 fn frame_diagnostics(r: DiagnosticRequest, identity: &[u8], buf: &mut [u8]) -> Filled<u8>
     requires { 260 ≤ length buf.old }
     ensures { FramedAs (next_diagnostic (take 252 identity.now)) (report_action Diagnostic) r.dialog (left r.first r.count r.elements) buf.old buf.new result.wrote result.done (left result.after r.count r.elements) }
@@ -88,7 +87,8 @@ fn served(requester: Requester, answer: Answer) -> Served
     Served { requester, answer }
 }
 
-// An event report, where a request is outstanding.
+// An event report, where a request is outstanding. For each kind a function, as of the frames: a function of both
+// would take the frame and what is left of the request as closures.
 fn give_events(r: Requester, log: Log, buf: &mut [u8]) -> Served
     requires { 260 ≤ length buf.old }
     ensures { view_served result buf.new ≡ give_kind elapsed_since none (logged log) buf.old (view_requester r) Event }
@@ -119,7 +119,7 @@ fn give_diagnostics(r: Requester, identity: &[u8], buf: &mut [u8]) -> Served
 }
 
 // The report call of a listed requester: refused for a short buffer, nothing, or a frame. Of an identity more
-// than 252 octets are not taken.
+// than 252 octets are not taken. A match, which the compiler holds to name every kind.
 pub fn give_report(r: Requester, identity: &[u8], log: Log, kind: Kind, buf: &mut [u8]) -> Served
     ensures { view_served result buf.new ≡ give_report elapsed_since (view_identity (length identity.now) (take 252 identity.now)) (logged log) kind buf.old (view_requester r) }
 {

@@ -13,7 +13,7 @@ ghost use Rattle.report_listing.specs.Internal.{times_most, event_most, unread_m
 
 use events::rsna_events::RSN_LENGTH;
 use events::{DRAFT, Times, is_form};
-use octets::{Cause, Kind, address_at, numbers, octet, pair, pair_at, size};
+use octets::{Cause, Kind, address_at, numbers, octet, pair};
 use report_reader::{
     Cursor, Element, PeerLinkReport, RsnaReport, Step, TransitionReport, peer_link_in, read_report,
     rsna_in, transition_in,
@@ -85,7 +85,8 @@ fn put_published(text: &mut Text<LISTING>, t: Times)
     put_bare(text, b" error ", &t.error);
 }
 
-// The form goes beside the text, here and below: in a struct of both each clause would say that it stays.
+// The form goes beside the text, here and below: with a struct of both, each of these functions would have a
+// clause more, that it leaves the form as it was.
 fn put_times(text: &mut Text<LISTING>, form: u8, t: Times)
     ensures { Puts LISTING times_most (times_text form t) text.old text.new }
 {
@@ -137,7 +138,7 @@ fn put_vendor(text: &mut Text<LISTING>, method: [u8; 8])
     put_colons(text, b" vendor-type ", &method[4..]);
 }
 
-// The RSN element, where one is there.
+// The RSN element, where one is there. Places and size are two fields of what C sees, and are cut here alone.
 fn put_rsn(text: &mut Text<LISTING>, rsn: [u8; RSN_LENGTH], size: usize)
     ensures { Puts LISTING 49 (rsn_text rsn size) text.old text.new }
 {
@@ -164,7 +165,7 @@ fn put_rsna(text: &mut Text<LISTING>, form: u8, e: RsnaReport)
 fn three(o: [u8; 3]) -> usize
     ensures { result ≡ pair_at o 0 + 65536 * get_or o 2 0 }
 {
-    usize::from(pair_at(&o, 0)) + 65536 * size(&o, 2)
+    u32::from_le_bytes([o[0], o[1], o[2], 0]) as usize
 }
 
 fn put_peer_link(text: &mut Text<LISTING>, form: u8, e: PeerLinkReport)
@@ -281,8 +282,7 @@ fn put_listing(text: &mut Text<LISTING>, form: u8, destination: [u8; 6], s: &[u8
 
 // Reads a report frame of a form for a destination and lists it.
 pub fn list_report(form: u8, destination: [u8; 6], s: &[u8]) -> Text<LISTING>
-    ensures text { result ≡ frame_listing form destination s.now }
-    ensures within { length result ≤ report_listing_most }
+    ensures { result ≡ frame_listing form destination s.now }
 {
     let mut text = Text::new();
     put_listing(&mut text, form, destination, s);
@@ -304,8 +304,7 @@ fn put_input(text: &mut Text<LISTING>, input: &[u8])
 
 // Lists the input of the program `report`: the form, six octets of destination, then the frame.
 pub fn list_input(input: &[u8]) -> Text<LISTING>
-    ensures text { result ≡ input_listing input.now }
-    ensures within { length result ≤ report_listing_most }
+    ensures { result ≡ input_listing input.now }
 {
     let mut text = Text::new();
     put_input(&mut text, input);

@@ -305,10 +305,6 @@ module _ (s : List ℕ) (at n : ℕ) {end : ℕ} (e : end ≡ at + 2 + n) where
 
 -- what is refused is not held to anything more
 module _ (form : ℕ) (s : List ℕ) (kind : Kind) (at : ℕ) (r : CodeRefusal) (t : Step) where
-  pub refused_held : Outline form s kind at (verdict_read (Err r)) t → verdict_read (Err r) ≡ verdict_of t
-  unfolding held when◌then◌else◌
-  refused_held o = o.told
-
   pub refused_gathered : (x : Reading) → verdict_read (Err r) ≡ verdict_of t → walk_read (Err r) ≡ walk_of (gathered form s x t)
   unfolding gathered verdict_of when◌then◌else◌
   refused_gathered x e = let f : refusal_of r ≡ t.refusal = ap (λ (v : Verdict). v.refusal) e in

@@ -18,6 +18,8 @@ use events::{
 use octets::{copy, octet, put};
 use units::TimeUnits;
 
+// Three structs beside events' own of each kind: C sees each by a name of its own, with times in front.
+
 // A reported transition; the signals are source RCPI, source RSNI, target RCPI and target RSNI. Of an
 // event's time fields those that the form does not carry are 0.
 #[repr(C)]
@@ -99,7 +101,8 @@ fn whole_of<'a>(o: &'a [u8], padded: &'a [u8]) -> &'a [u8]
     &o[..padded.len()]
 }
 
-// The octets at a position, which are all there.
+// The octets at a position, which are all there. No array_at and time_at, here and in rsn_places: with them a report
+// in the published form takes 15,399 instructions for 13,421.
 fn copy_at(o: &[u8], at: usize, out: &mut [u8])
     requires { at + length out.old ≤ length o.now }
     ensures { out.new ≡ octets_at o.now at (length out.old) }

@@ -30,7 +30,6 @@ const EVENT_HEAD: usize = 3;
 // The fields of a report element: how many octets stand behind its status, how many subelements
 // they are (in a diagnostic), and whether they are an event, which the decoder of its type reads: a flag, since
 // no field here belongs to an event alone.
-#[repr(C)]
 #[derive(Clone, Copy)]
 pub struct Element {
     pub token: u8,
@@ -85,10 +84,10 @@ pub struct Report {
     pub count: usize,
 }
 
-// ---- the verdict on one element, in two steps: its outline, then what it holds (as one function it
-// would not be inlined into the loop over a frame and into the cursor's step). Form, octets and kind are no
-// struct: with one, a report of 64 events takes 31,798 instructions behind `&self`, and 33,335 by value with no
-// end handed on, for 26,750. The end goes beside the length: computed from it, 31,281.
+// ---- the verdict on one element. Its outline and what it holds are two steps: as one function it would not be
+// inlined into the loop over a frame and into the cursor's step. Form, octets and kind are no struct: with one, a
+// report of 64 events took 31,798 instructions for 26,750. The end goes beside the length: computed from it, it took
+// 31,281. Position, length and end are no struct: three functions ask for its fact, and one would have to make it.
 
 // Has an RSNA event, by the first octet of its EAP method, a body of n octets in a form?
 fn is_rsna_length(form: u8, first: u8, n: usize) -> bool
@@ -245,7 +244,7 @@ fn validate_own(
     }
 }
 
-// The verdict, by the element's outline: two of its three kinds have an end to go on with.
+// The verdict, by the element's outline: what is passed over stays as it is.
 #[tactic(auto, using(laws::proofs::Choice::choices), unfolding(crate::specs::Internal::held))]
 fn validate_held(form: u8, s: &[u8], kind: Kind, at: usize, v: Verdict) -> Result<Verdict, Refusal>
     requires { Held s.now at (verdict_given v) }
@@ -253,8 +252,7 @@ fn validate_held(form: u8, s: &[u8], kind: Kind, at: usize, v: Verdict) -> Resul
 {
     match v {
         Verdict::Skipped(_) => Ok(v),
-        Verdict::Plain(end, _) => validate_own(form, s, kind, at, end, v),
-        Verdict::Logged(end) => validate_own(form, s, kind, at, end, v),
+        Verdict::Plain(end, _) | Verdict::Logged(end) => validate_own(form, s, kind, at, end, v),
     }
 }
 
@@ -350,8 +348,7 @@ fn advance(w: Walk, v: Verdict) -> Walk
             at: next,
             count: w.count,
         },
-        Verdict::Plain(next, _) => counted(w, next),
-        Verdict::Logged(next) => counted(w, next),
+        Verdict::Plain(next, _) | Verdict::Logged(next) => counted(w, next),
     }
 }
 
@@ -359,7 +356,10 @@ fn advance(w: Walk, v: Verdict) -> Walk
 fn validate(form: u8, s: &[u8], kind: Kind) -> Result<Walk, Refusal>
     ensures { walk_read result ≡ walk_of (read_elements form s.now kind) }
 {
-    let mut w = Walk { at: 3, count: 0 };
+    let mut w = Walk {
+        at: numbers::SHORTEST_FRAME,
+        count: 0,
+    };
     while w.at < s.len() {
         let outline = outline_at(form, s, kind, w.at)?;
         let v = validate_held(form, s, kind, w.at, outline)?;
@@ -393,6 +393,7 @@ pub fn read_report(form: u8, destination: [u8; 6], s: &[u8]) -> Result<Report, R
         return Err(Cause::GroupDestination.at(0));
     }
     let kind = frame_kind(s, Kind::Diagnostic.report_action());
+    // No map_err and `?`, as in requests::read_request.
     if let Err(cause) = check_head(s, kind.report_action()) {
         return Err(cause.at(0));
     }

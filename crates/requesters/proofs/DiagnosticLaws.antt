@@ -6,7 +6,6 @@ use Rattle.laws.specs.Members.{any}
 use Rattle.laws.specs.Choice.{when◌then◌else◌}
 use Rattle.model.specs.declared.Diagnostic.{Diagnostic}
 use Rattle.requests.specs.declared.Element.{Element}
-use Rattle.std.specs.List.{list_any}
 use Rattle.model.specs.Diagnostics.{diagnostic_treatment, is_cancel, holds_cancel, diagnostic_of, is_late, on_time, unless_over}
 
 -- a request by the number of its elements
@@ -51,8 +50,8 @@ module _ (since : ℕ → ℕ → ℕ) (now accepted : ℕ) where
 abbrev pub past_diagnostics : Diagnostic
 past_diagnostics = record { token = 0; ty = 0; timeout = 0 }
 
--- does one of the elements of a frame ask for a Cancel, as the library's `any` says it?
-pub cancels_listed : (es : List Element) → list_any (λ x. is_cancel (diagnostic_treatment x.ty)) es ≡ holds_cancel (map diagnostic_of es)
+-- does one of the elements of a frame ask for a Cancel?
+pub cancels_listed : (es : List Element) → any (λ x. is_cancel (diagnostic_treatment x.ty)) es ≡ holds_cancel (map diagnostic_of es)
 unfolding any
 cancels_listed [] = refl
 cancels_listed (x ∷ es) = ap (λ b. is_cancel (diagnostic_treatment x.ty) || b) (cancels_listed es)

@@ -2,7 +2,7 @@
 ghost use Rattle.std.specs.Prelude.{◌≡◌};
 ghost use Rattle.units.specs.Time.{elapsed_since};
 ghost use Rattle.requests.specs.Requests.{accepted_request};
-ghost use Rattle.model.specs.Diagnostics.{diagnostic_treatment, is_late, on_time, unless_over, drop_late, is_cancel, holds_cancel, diagnostic_of, diagnostics_of};
+ghost use Rattle.model.specs.Diagnostics.{diagnostic_treatment, is_late, on_time, unless_over, drop_late, is_cancel, holds_cancel, diagnostics_of};
 ghost use Rattle.requesters.specs.Views.{left, view_diagnostics};
 ghost use Rattle.requesters.specs.Internal.{listed_elements, renews_diagnostics, new_diagnostics};
 ghost use Rattle.requesters.specs.Blank.{blank_diagnostics};
@@ -54,7 +54,7 @@ fn request_of(dialog: u8, accepted: Elapsed, k: Diagnostics) -> DiagnosticReques
     }
 }
 
-// Those on time of the elements left.
+// Those on time of the elements left, from place to place of the array: no filter collects into one.
 fn kept(d: DiagnosticRequest, now: Elapsed) -> Diagnostics
     ensures { listed_elements result ≡ on_time elapsed_since now.0 d.accepted.0 (left d.first d.count d.elements) }
 {
@@ -85,17 +85,6 @@ pub fn on_time(d: DiagnosticRequest, now: Elapsed) -> DiagnosticRequest
     request_of(d.dialog, accepted, kept(d, now))
 }
 
-// A function: neither type is of this crate, so no `From` can stand here.
-fn diagnostic_of(x: Element) -> Diagnostic
-    ensures { result ≡ diagnostic_of x }
-{
-    Diagnostic {
-        token: x.token,
-        ty: x.ty,
-        timeout: x.timeout,
-    }
-}
-
 // The elements that a frame asks for, from the last to the first: in the other order the compiler
 // unrolls the loop and copies each element of the frame by itself.
 fn diagnostics_of(q: Request) -> Diagnostics
@@ -105,7 +94,7 @@ fn diagnostics_of(q: Request) -> Diagnostics
     let end = q.count.min(ELEMENT_CAPACITY);
     let mut elements = [BLANK; ELEMENT_CAPACITY];
     for i in (0..end).rev() {
-        elements[i] = diagnostic_of(asked[i]);
+        elements[i] = Diagnostic::from(asked[i]);
     }
     Diagnostics {
         count: end,

@@ -27,10 +27,9 @@ pub struct Progress {
     pub below: u8,
 }
 
-// An event request, where outstanding (a flag, since C lends this memory and Rattle gives C no enum). Its
-// elements left are those from progress.first to count; the other places are free. The log's first mark places
-// were logged before acceptance. Counts are one octet each: as words they would make a station larger by a
-// fortieth, which every call copies.
+// An event request, where outstanding: a flag, since C lends this memory, and Rattle gives C no enum. Its elements
+// left are those from progress.first to count; the other places are free. The first mark places of the log were
+// logged before acceptance. Counts are octets: as words they make the station, which calls copy, a fortieth larger.
 #[repr(C)]
 #[derive(Clone, Copy)]
 pub struct EventRequest {
@@ -55,8 +54,8 @@ pub struct DiagnosticRequest {
     pub dialog: u8,
 }
 
-// The elements that a diagnostic request opens with, or those that the late drop leaves of one: the first count
-// (no Vec: no heap).
+// The elements that a diagnostic request opens with, or those that the late drop leaves of one: the first count of
+// an array, which becomes part of the station's memory by one copy.
 #[derive(Clone, Copy)]
 pub(crate) struct Diagnostics {
     pub count: usize,
@@ -64,7 +63,8 @@ pub(crate) struct Diagnostics {
     ghost few: { count ≤ element_capacity },
 }
 
-// A requester, with the form that it follows (document 02 (g)) and at most one request of each kind.
+// A requester, with the form that it follows (document 02 (g)) and at most one request of each kind. The form is the
+// number that C hands in and keeps; one that is no form was refused by cause 15.
 #[repr(C)]
 #[derive(Clone, Copy)]
 pub struct Requester {
@@ -84,7 +84,8 @@ pub enum Answer {
     Refused(Refusal),
 }
 
-// What a call makes of its requester, and the answer.
+// What a call makes of its requester, and the answer. Beside station's Outcome: each says by its name and its
+// field what is left, and one generic struct for both would not.
 #[derive(Clone, Copy)]
 pub struct Served {
     pub requester: Requester,

@@ -1,13 +1,12 @@
--- Laws of the walk over elements: the number of subelements and of elements, tokens, and a turn of the walk's loop.
+-- Laws of the walk over elements: the number of subelements and of elements, and a turn of the walk's loop.
 -- Assumes nothing.
-use Rattle.std.proofs.Common.{ℕ, ◌+◌, ◌-◌, ◌≤◌, ◌<◌, ◌≡◌, refl, ap, ◌∙◌, Bool, true, false, List, ltb, length, get_or, set, take, drop, length-take, length-set, length-drop, take_all, drop_of_length-le, eq-eqb, ne_eqb, eqb-true, leb-false, le-leb, lt-ltb, le-ltb, arith}
+use Rattle.std.proofs.Common.{ℕ, ◌+◌, ◌-◌, ◌≤◌, ◌<◌, ◌≡◌, refl, ap, ◌∙◌, Bool, true, false, List, ltb, length, get_or, set, take, drop, length-take, length-set, length-drop, take_all, eq-eqb, ne_eqb, eqb-true, leb-false, le-leb, lt-ltb, le-ltb, arith}
 use Rattle.std.proofs.lemmas.Bool.{eqb-false, lt-leb, not-true, not-false}
-use Rattle.laws.specs.Members.{any}
 use Rattle.laws.specs.Choice.{when◌then◌else◌}
 use Rattle.laws.proofs.Choice.{either, never}
-use Rattle.laws.proofs.Walk.{Rest, start, last, again, done, go_on, stop_refused, stop_end, keeps_while, keeps, and_first}
+use Rattle.std.proofs.lemmas.Bool.{and_parts}
+use Rattle.laws.proofs.Walk.{Rest, start, last, again, done, go_on, stop_refused, stop_end, keeps_while, keeps}
 use Rattle.std.proofs.lemmas.List.{get_or-drop}
-use Rattle.laws.proofs.Arrays.{take_next}
 use Rattle.octets.specs.declared.numbers.Kind.{Kind}
 use Rattle.octets.specs.declared.numbers.Kind.TheVariants.{Event, Diagnostic}
 use Rattle.octets.specs.Refusals.{no_refusal, element_past_end, too_many_elements, short_element, bad_element_token, no_element}
@@ -19,7 +18,7 @@ use Rattle.subelements.specs.declared.Condition.{Condition}
 use Rattle.subelements.specs.Subelements.{walked, refused_walk, past, whole_step, subelement_step, tables, walk, Subelements}
 use Rattle.subelements.proofs.Laws.{walk-at_end}
 use Rattle.requests.specs.declared.Element.{Element}
-use Rattle.requests.specs.Elements.{element_capacity, past_elements, least_body, limit_at, timeout_at, table_of, subelements_of, element_of, blank_elements, has_token, bad_token, ElementWalk, started, refused_elements, with_element, own_request_step, element_step, more_elements, walk_elements}
+use Rattle.requests.specs.Elements.{element_capacity, least_body, limit_at, timeout_at, table_of, subelements_of, element_of, blank_elements, bad_token, ElementWalk, started, refused_elements, with_element, own_request_step, element_step, more_elements, walk_elements}
 use Rattle.requests.specs.Internal.{subelements_start}
 use Rattle.requests.specs.Requests.{refused_request, lacks_element, request_of, request_kind, header_cause, read_request, Request}
 
@@ -53,7 +52,7 @@ module _ (s : List ℕ) (ty from end : ℕ) where
   pub walk_few : (walk s ty from end).count ≤ end - from
   unfolding walk
   walk_few =
-      (keeps_while Few _ _ (λ w m p. step_few w (eqb-true _ 0 (and_first _ _ m)) p) end (walked no_refusal from) (record { few = omega arith; behind = λ _. omega arith })).few
+      (keeps_while Few _ _ (λ w m p. step_few w (eqb-true _ 0 (and_parts _ _ m).0) p) end (walked no_refusal from) (record { few = omega arith; behind = λ _. omega arith })).few
 
 -- the walk from where they start
 pub subelements-from : (s : List ℕ) (kind : Kind) (at end : ℕ)
@@ -144,22 +143,6 @@ request_some most s =
     (λ _. either HasOne _ _ _ (λ h. refused-one _ _ (eqb-false _ 0 (not-true _ h)))
     (λ _. either HasOne _ _ _ (λ _. refused-one no_element 0 (λ e. omega arith))
     (λ h. read_one (request_kind s) (get_or s 2 0) _ _ (keeps EightPlaces _ _ (step_eight most s (request_kind s)) (length s) (started no_refusal 3) refl) h)))
-
--- ---- tokens: what is left of the first n elements, from i on
-
-module _ (es : List Element) (n token i : ℕ) where
-  module _ (h : i < n) (k : i < length es) where
-    pub token_found : (get_or es i past_elements).token ≡ token → has_token (drop i (take n es)) token ≡ true
-    unfolding any when◌then◌else◌
-    token_found e = rw (take_next es past_elements n i h k, eq-eqb _ token e)
-
-    pub token_next : ((get_or es i past_elements).token ≡ token → ⊥) → has_token (drop i (take n es)) token ≡ has_token (drop (i + 1) (take n es)) token
-    unfolding any when◌then◌else◌
-    token_next e = rw (take_next es past_elements n i h k, ne_eqb _ token e)
-
-  pub token_none : length (take n es) ≤ i → has_token (drop i (take n es)) token ≡ false
-  unfolding any
-  token_none h = rw (drop_of_length-le (take n es) {i = i} h)
 
 -- ---- the header
 

@@ -11,7 +11,7 @@ ghost use Rattle.requests.specs.OneElement.{element_read, read_element};
 ghost use Rattle.requests.specs.Requests.{lacks_element, request_of, request_read, header_cause, read_request};
 
 use octets::{Cause, Kind, Refusal, check_head, frame_kind, octet, pair_at, piece_end, size};
-use subelements::{Condition, Subelements, TABLES, walk};
+use subelements::{ABSENT, Condition, Subelements, TABLES, walk};
 
 // The most elements that a request has.
 pub const ELEMENT_CAPACITY: usize = 8;
@@ -32,7 +32,8 @@ pub struct Element {
     pub filter: [Condition; 5],
 }
 
-// What a reader finds: a request of count elements; the places past them are blank. A count, no Vec: no heap.
+// What a reader finds: a request of count elements; the places past them are blank. An array and a
+// count, no ArrayVec: its elements become part of the station's memory, which C lends, by one copy.
 #[derive(Clone, Copy)]
 pub struct Request {
     pub kind: Kind,
@@ -41,7 +42,10 @@ pub struct Request {
     pub elements: [Element; ELEMENT_CAPACITY],
 }
 
-// The octets of a body before its subelements. No number of Kind's own: only the reader of requests asks.
+// What an element of each kind has: here and in limit_of, timeout_of and table_of. No methods of Kind's own:
+// only the reader of requests asks.
+
+// The octets of a body before its subelements.
 fn least_body(kind: Kind) -> usize
     ensures { result ≡ least_body kind }
 {
@@ -70,6 +74,7 @@ fn timeout_of(x: &[u8], kind: Kind) -> u16
 }
 
 // Where the subelements of the element at a position start: at its end where its type has none that are read.
+#[tactic(auto, using(laws::proofs::Choice::choices), unfolding(crate::specs::Internal::subelements_start))]
 fn subelements_start(s: &[u8], kind: Kind, at: usize, end: usize) -> usize
     requires { at < 2304 }
     ensures { result ≡ subelements_start s.now kind at end }
@@ -125,16 +130,15 @@ fn has_token(es: &[Element], token: u8) -> bool
     es.iter().any(|e| e.token == token)
 }
 
+// Is a token 0 where that is refused? No twin of lacks_element: another kind, another number.
 fn zero_token(kind: Kind, token: u8) -> bool
     ensures { result ≡ zero_token kind token }
 {
-    match kind {
-        Kind::Event => token == 0,
-        Kind::Diagnostic => false,
-    }
+    kind == Kind::Event && token == 0
 }
 
 // Is a token refused behind the elements?
+#[tactic(auto, using(laws::proofs::Choice::choices), unfolding(crate::specs::Elements::bad_token))]
 pub fn bad_token(kind: Kind, es: &[Element], token: u8) -> bool
     ensures { result ≡ bad_token kind es.now token }
 {
@@ -151,10 +155,7 @@ pub fn blank_element() -> Element
         limit: 0,
         subs: 0,
         timeout: 0,
-        filter: [Condition {
-            present: false,
-            octets: [0; 8],
-        }; 5],
+        filter: [ABSENT; 5],
     }
 }
 
@@ -168,10 +169,7 @@ pub fn blank_elements() -> [Element; ELEMENT_CAPACITY]
 pub fn lacks_element(kind: Kind, count: usize) -> bool
     ensures { result ≡ lacks_element kind count }
 {
-    match kind {
-        Kind::Event => false,
-        Kind::Diagnostic => count == 0,
-    }
+    kind == Kind::Diagnostic && count == 0
 }
 
 // The elements behind the three octets of the header. They are a local of their own, no field of what
@@ -233,13 +231,15 @@ pub fn read_request(s: &[u8]) -> Result<Request, Refusal>
     ensures { request_read result ≡ read_request element_capacity s.now }
 {
     let kind = frame_kind(s, Kind::Diagnostic.request_action());
+    // No map_err and `?`: tried, and the proof would cite names of the check's own.
     if let Err(cause) = check_header(s, kind) {
         return Err(cause.at(0));
     }
     read_elements(s, kind)
 }
 
-// Reads one event request element, all of the octets: as a frame's, with places counted in it.
+// Reads one event request element, all of the octets: as a frame's, with places counted in it. Its steps are
+// read_elements' own, at 0 and with no element before: a function of both would have five parameters for five lines.
 pub fn read_element(s: &[u8]) -> Result<Element, Refusal>
     ensures { element_read result ≡ read_element s.now }
 {

@@ -14,7 +14,7 @@ use crate::clock::ticked;
 use crate::outcomes::changed;
 use crate::requester_lists::find;
 use crate::{Changed, Outcome, Station};
-use events::{LOG_CAPACITY, Log};
+use events::Log;
 use model::{REQUESTER_CAPACITY, REQUESTER_LAST};
 use octets::{Cause, Refusal, is_group};
 use requesters::{
@@ -27,11 +27,11 @@ use units::{Elapsed, Milliseconds};
 fn logged_in(log: Log) -> u8
     ensures { result ≡ length (log_logged log) }
 {
-    log.count.min(LOG_CAPACITY) as u8
+    log.len() as u8
 }
 
 // What the reader made of a frame, unless its destination or its source is refused: the source found its
-// requester, or did not.
+// requester, or did not (a flag, since `find` gives a place and no Option).
 fn admit(
     destination: [u8; 6],
     found: bool,

@@ -19,6 +19,9 @@ use model::REQUESTER_CAPACITY;
 use requesters::{Answer, Requester};
 use units::{Elapsed, Milliseconds};
 
+// An identity has at most so many octets.
+const IDENTITY: usize = 252;
+
 // The time of the latest call, and its reading, where one was made (started: a flag, since C lends this memory).
 #[repr(C)]
 #[derive(Clone, Copy)]
@@ -35,7 +38,7 @@ pub struct Timer {
 #[derive(Clone, Copy)]
 pub struct Station {
     pub timer: Timer,
-    pub identity: [u8; 252],
+    pub identity: [u8; IDENTITY],
     pub length: usize,
     pub log: Log,
     pub requesters: [Requester; REQUESTER_CAPACITY],

@@ -40,7 +40,8 @@ pub(crate) fn refused_with(station: Station, cause: Cause) -> Outcome
     }
 }
 
-// The station with what a call changes of it, and the answer.
+// The station with what a call changes of it, and the answer. Its array goes through a variable: from a field straight
+// into a literal the toolchain's borrow checker takes none, here and in `renamed`.
 pub(crate) fn changed(g: Station, c: Changed) -> Outcome
     ensures { result ≡ changed_outcome g c }
 {
@@ -55,8 +56,8 @@ pub(crate) fn changed(g: Station, c: Changed) -> Outcome
     }
 }
 
-// A requester that a call leaves as it is, refused by a cause at place 0. Beside `refused_with`: a trait over
-// both types would be longer than the two.
+// A requester that a call leaves as it is, refused by a cause at place 0. Beside `refused_with`: a trait over both
+// types would be longer than the two, and in one generic struct for both no field would say what is left.
 pub(crate) fn left_alone(requester: Requester, cause: Cause) -> Served
     ensures { ((buffer : List ℕ) → view_served result buffer ≡ served (view_requester requester) (refused_for (cause_number cause)) buffer) }
 {

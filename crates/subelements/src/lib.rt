@@ -18,6 +18,12 @@ pub struct Condition {
     pub octets: [u8; 8],
 }
 
+// One that is absent.
+pub const ABSENT: Condition = Condition {
+    present: false,
+    octets: [0; 8],
+};
+
 // How far a walk has come: the next position, the number of subelements walked, those of other IDs too, and
 // the condition of each ID of the table.
 #[derive(Clone, Copy)]
@@ -38,6 +44,7 @@ pub struct Length {
     pub expanded: usize,
 }
 
+// Literals: no function makes them, since a constant's value may not call one.
 const RESERVED: Length = Length {
     plain: 0,
     expanded: 0,
@@ -105,7 +112,8 @@ pub fn length_of(ty: usize, id: usize, first: u8) -> usize
     }
 }
 
-// Octet k of a body of n octets, 0 past its end.
+// Octet k of a body of n octets, 0 past its end. The last line is `octet` written out: with a call of it, a frame of
+// 8 elements takes 5,413 instructions for 5,249.
 fn body_octet(s: &[u8], at: usize, n: usize, k: usize) -> u8
     requires { at ≤ length s.now }
     ensures { result ≡ body_octet s.now at n k }
@@ -116,7 +124,8 @@ fn body_octet(s: &[u8], at: usize, n: usize, k: usize) -> u8
     if k < s.len() - at { s[at + k] } else { 0 }
 }
 
-// A body of n octets, in eight places, 0 past its end.
+// A body of n octets, in eight places, 0 past its end. By `array::from_fn`, whose contract speaks of calls, the
+// check does not find the eight places.
 pub fn body(s: &[u8], at: usize, n: usize) -> [u8; 8]
     ensures { result ≡ body_at s.now at n }
 {
@@ -140,10 +149,7 @@ fn walk_from(at: usize) -> Subelements
     Subelements {
         at,
         count: 0,
-        filter: [Condition {
-            present: false,
-            octets: [0; 8],
-        }; 5],
+        filter: [ABSENT; 5],
     }
 }
 
@@ -181,18 +187,9 @@ pub fn walk(s: &[u8], ty: usize, from: usize, end: usize) -> Result<Subelements,
     Ok(w)
 }
 
-// The subelements of a diagnostic report, which are walked for their edges only: no table, no filter. A loop,
-// as `walk`.
+// The subelements of a diagnostic report, which are walked for their edges only: no table has them.
 pub fn walk_edges(s: &[u8], from: usize, end: usize) -> Result<Subelements, Refusal>
     ensures { walk_read result ≡ subelements_walk s.now tables from end }
 {
-    let mut w = walk_from(from);
-    while w.at < end {
-        let Some(behind) = piece_end(s, w.at, end) else {
-            return Err(Cause::BadSubelement.at(w.at));
-        };
-        w.at = behind;
-        w.count += 1;
-    }
-    Ok(w)
+    walk(s, TABLES, from, end)
 }

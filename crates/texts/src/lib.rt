@@ -131,6 +131,14 @@ impl<const N: usize> Text<N> {
         }
     }
 
+    // Its octets, at most N: so a text that is promised whole has no more either.
+    pub fn octets(&self) -> &[u8]
+        ensures value { result.now ≡ self.now }
+        ensures fits { length result.now ≤ N }
+    {
+        self.octets.as_slice()
+    }
+
     // Octets, as they stand.
     pub fn put(&mut self, o: &[u8])
         ensures { self.new ≡ put_whole N o.now self.old }
@@ -199,7 +207,7 @@ impl<const N: usize> Text<N> {
         ensures { PutsWhole N refusal_most (refusal_line (refusal_of r)) self.old self.new }
     {
         let line = refusal_line(r);
-        self.put(line.as_slice());
+        self.put(line.octets());
     }
 
     // The first line of a frame's listing.
@@ -226,14 +234,13 @@ impl<const N: usize> AsSlice<u8> for Text<N> {
     ghost items = { λ text. text };
 
     fn as_slice(&self) -> &[u8] {
-        self.octets.as_slice()
+        self.octets()
     }
 }
 
 // The line of a refusal alone.
 fn refusal_line(r: Refusal) -> Text<REFUSAL>
-    ensures text { result ≡ refusal_line (refusal_of r) }
-    ensures within { length result ≤ refusal_most }
+    ensures { result ≡ refusal_line (refusal_of r) }
 {
     let mut line = Text::new();
     line.field(b"refused ", r.cause.number());

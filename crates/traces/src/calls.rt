@@ -8,7 +8,8 @@ use events::{PeerLink, RsnaEvent, Times, Transition};
 use octets::{Kind, address_at, array_at, octet, pair_at, time_at};
 use units::Milliseconds;
 
-// Octets of the input, from one position to another.
+// Octets of the input, from one position to another. No slice: the fields behind them stand at `to`, which a slice
+// does not tell, and both may lie past the end of the input.
 #[derive(Clone, Copy)]
 pub struct Span {
     pub from: usize,
@@ -86,19 +87,14 @@ pub struct ExplainCall {
 fn fields(s: &[u8], at: usize) -> usize
     ensures { (result ≡ fields_of s.now at) × (result ≤ length s.now) }
 {
-    if s.len() <= at {
-        return s.len();
-    }
-    at + 1
+    at.saturating_add(1).min(s.len())
 }
 
+#[tactic(auto, unfolding(crate::specs::Records::milliseconds_at, octets::specs::Fields::octets_at))]
 fn milliseconds_at(s: &[u8], at: usize) -> Milliseconds
     ensures { result ≡ milliseconds_at s.now at }
 {
-    if s.len() <= at {
-        return Milliseconds(0);
-    }
-    Milliseconds((pair_at(s, at) as u32) + 65536 * (pair_at(s, at + 2) as u32))
+    Milliseconds(u32::from_le_bytes(array_at(s, at)))
 }
 
 // An event's time fields: the time, TSF, UTC offset, event time error.

@@ -150,7 +150,7 @@ fn with_element(w: Elements, i: u8, r: Recorded) -> Elements
     }
 }
 
-// So many elements from a position on; at 0 stands the number of a record, and no element.
+// So many elements from a position on; from 0 none, since the definitions write 0 for no place.
 pub fn elements_at(s: &[u8], kind: Kind, count: u8, from: usize) -> Option<Elements>
     ensures { let all = elements_at s.now kind count from in result ≡ unless_refused all.end all }
 {

@@ -47,7 +47,7 @@ pub fn record_kind(s: &[u8], at: usize) -> Option<RecordKind>
     }
 }
 
-// Where so many octets from a position on end; at 0 stands the number of a record, and no part of it.
+// Where so many octets from a position on end. From 0 nowhere, since the definitions write 0 for no place.
 pub(crate) fn behind(s: &[u8], at: usize, n: usize) -> Option<usize>
     ensures place { result ≡ found (places_behind s.now at n) }
     ensures within { IfSome result (λ end. (end ≡ at + n) × (end ≤ length s.now)) }

@@ -1,8 +1,8 @@
 // The lines of answers, explanations and lent buffers, each in a text that has room for every one of them.
-ghost use Rattle.std.specs.Prelude.{◌≡◌, [], ◌+◌, ◌≤◌, length, take, replicate};
+ghost use Rattle.std.specs.Prelude.{◌≡◌, ◌+◌, length, take, replicate};
 ghost use Rattle.explanations.specs.Explanations.{reason_given, explanation_read};
 ghost use Rattle.texts.specs.Text.{Puts};
-ghost use Rattle.traces.specs.Lines.{number_line, answer_line, explanation_line, trace_refusal_line, buffer_line, line_most, buffer_line_most};
+ghost use Rattle.traces.specs.Lines.{number_line, answer_line, explanation_line, trace_refusal_line, buffer_line};
 
 use arrayvec::ArrayVec;
 use explanations::Explanation;
@@ -29,8 +29,7 @@ fn put_line(line: &mut Text<LINE>, name: &[u8], n: usize)
 
 // The line of an answer.
 pub fn answer_line(answer: Answer) -> Text<LINE>
-    ensures text { result ≡ answer_line answer }
-    ensures within { length result ≤ line_most }
+    ensures { result ≡ answer_line answer }
 {
     let mut line = Text::new();
     match answer {
@@ -44,8 +43,7 @@ pub fn answer_line(answer: Answer) -> Text<LINE>
 
 // The line of a reason.
 fn reason_line(e: Explanation) -> Text<LINE>
-    ensures text { result ≡ explanation_line (reason_given e) }
-    ensures within { length result ≤ line_most }
+    ensures { result ≡ explanation_line (reason_given e) }
 {
     let mut line = Text::new();
     match e {
@@ -61,8 +59,7 @@ fn reason_line(e: Explanation) -> Text<LINE>
 // The line of an explanation, or of the refusal of what it was asked for.
 #[tactic(auto, unfolding(crate::specs::Lines::answer_line, crate::specs::Lines::explanation_line))]
 pub fn explanation_line(e: Result<Explanation, Refusal>) -> Text<LINE>
-    ensures text { result ≡ explanation_line (explanation_read e) }
-    ensures within { length result ≤ line_most }
+    ensures { result ≡ explanation_line (explanation_read e) }
 {
     match e {
         Ok(reason) => reason_line(reason),
@@ -72,8 +69,7 @@ pub fn explanation_line(e: Result<Explanation, Refusal>) -> Text<LINE>
 
 // The line of a trace that is refused at a place.
 pub fn trace_refusal_line(place: usize) -> Text<LINE>
-    ensures text { result ≡ trace_refusal_line place }
-    ensures within { length result ≤ line_most }
+    ensures { result ≡ trace_refusal_line place }
 {
     let mut line = Text::new();
     put_line(&mut line, b"trace refused at ", place);
@@ -91,8 +87,7 @@ pub fn lent_buffer(fill: u8, length: u16) -> ArrayVec<u8, BUFFER>
 
 // The line of a buffer.
 pub fn buffer_line(buf: &ArrayVec<u8, BUFFER>) -> Text<BUFFER_LINE>
-    ensures text { result ≡ buffer_line buf.now.items }
-    ensures within { length result ≤ buffer_line_most }
+    ensures { result ≡ buffer_line buf.now.items }
 {
     let mut line = Text::new();
     line.put(b"buffer ");

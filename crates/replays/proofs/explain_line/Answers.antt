@@ -7,11 +7,11 @@ use Rattle.traces.specs.Records.{record_end}
 use Rattle.replays.specs.Replay.{explain_line}
 use Rattle.replays.proofs.explain_line.Goals as goal
 
-pub returns-in_default-clause-text : goal.returns-in_default-clause-text
+pub returns-in_default : goal.returns-in_default
 unfolding explain_line when◌then◌else◌
-returns-in_default-clause-text c = rw (none_found _ c.in_default.ensures) c.trace_refusal_line.ensures.text
+returns-in_default c = rw (none_found _ c.in_default.ensures) c.trace_refusal_line.ensures
 
-pub returns-clause-text : goal.returns-clause-text
+pub returns : goal.returns
 unfolding explain_line when◌then◌else◌
-returns-clause-text c = let is = some_found c.in-Some.ensures in
-    rw (ne_eqb (record_end c.args.s.now 0) 0 (omega (arith, is.1)), ← is.0, ← c.part.ensures) c.explained_line.ensures.text
+returns c = let is = some_found c.in-Some.ensures in
+    rw (ne_eqb (record_end c.args.s.now 0) 0 (omega (arith, is.1)), ← is.0, ← c.part.ensures) c.explained_line.ensures

@@ -6,10 +6,6 @@ use Rattle.request_writer.specs.Frames.{condition_length}
 use Rattle.request_writer.proofs.ConditionsBack.{length-within}
 use Rattle.request_writer.proofs.condition_length.Goals as goal
 
-pub returns-then-not-c : goal.returns-then-not-c
-unfolding condition_length when◌then◌else◌
-returns-then-not-c c = (rw c.if-not-c.true, omega arith)
-
 pub returns : goal.returns
 unfolding condition_length when◌then◌else◌
 returns c = let a = c.args in

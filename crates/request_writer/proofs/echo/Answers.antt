@@ -12,22 +12,22 @@ use Rattle.request_writer.proofs.echo.Goals as goal
 
 pub slice_bounds-buf-end : goal.slice_bounds-buf-end
 slice_bounds-buf-end c = let a = c.args in
-    let shapes = shaped a.elements _ c.well_formed.1.1.0.1.1 in
-    let eight : length a.elements ≡ element_capacity = search (rules, length_mapped) in
+    let shapes = shaped a.q.elements _ c.well_formed.0.1.1.1.1.1.0.1.1 in
+    let eight : length a.q.elements ≡ element_capacity = search (rules, length_mapped) in
     let long : length c.write_request.new.buf ≡ 267 = search rules in
     let len = c.unwrap_or-n.ensures ∙ written-length c.write_request.result in
-    omega (arith, len, long, (answer_bounded a.kind a.dialog a.elements a.count shapes eight 267).most, ap (λ (o : WriteOutcome). o.answer.length) c.write_request.ensures)
+    omega (arith, len, long, (answer_bounded a.q.kind a.q.dialog a.q.elements a.q.count shapes eight 267).most, ap (λ (o : WriteOutcome). o.answer.length) c.write_request.ensures)
 
 pub slice_bounds-read_request-end : goal.slice_bounds-read_request-end
 slice_bounds-read_request-end c = let a = c.args in
-    let shapes = shaped a.elements _ c.well_formed.1.1.0.1.1 in
-    let eight : length a.elements ≡ element_capacity = search (rules, length_mapped) in
+    let shapes = shaped a.q.elements _ c.well_formed.0.1.1.1.1.1.0.1.1 in
+    let eight : length a.q.elements ≡ element_capacity = search (rules, length_mapped) in
     let long : length c.write_request.new.buf ≡ 267 = search rules in
     let len = c.unwrap_or-n.ensures ∙ written-length c.write_request.result in
-    sym (length-take-le _ _ (omega (arith, len, long, (answer_bounded a.kind a.dialog a.elements a.count shapes eight 267).most, ap (λ (o : WriteOutcome). o.answer.length) c.write_request.ensures)))
+    sym (length-take-le _ _ (omega (arith, len, long, (answer_bounded a.q.kind a.q.dialog a.q.elements a.q.count shapes eight 267).most, ap (λ (o : WriteOutcome). o.answer.length) c.write_request.ensures)))
 
 pub returns : goal.returns
 returns c = let a = c.args in
-    let shapes = shaped a.elements _ c.well_formed.1.1.0.1.1 in
-    let eight : length a.elements ≡ element_capacity = search (rules, length_mapped) in
-    echo_read a.kind a.dialog a.elements a.count shapes eight (replicate 267 0) c.write_request.new.buf (written c.write_request.result) _ refl c.write_request.ensures (rw (← c.unwrap_or-n.ensures ∙ written-length c.write_request.result) c.read_request.ensures)
+    let shapes = shaped a.q.elements _ c.well_formed.0.1.1.1.1.1.0.1.1 in
+    let eight : length a.q.elements ≡ element_capacity = search (rules, length_mapped) in
+    echo_read a.q.kind a.q.dialog a.q.elements a.q.count shapes eight (replicate 267 0) c.write_request.new.buf (written c.write_request.result) _ refl c.write_request.ensures (rw (← c.unwrap_or-n.ensures ∙ written-length c.write_request.result) c.read_request.ensures)

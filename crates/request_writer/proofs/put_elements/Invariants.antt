@@ -4,4 +4,4 @@ use Rattle.request_writer.proofs.Writing.{Laying}
 use Rattle.request_writer.proofs.put_elements.Given as goal
 
 abbrev pub invariant-loop-i : goal.invariant-loop-i
-invariant-loop-i l = Laying l.kind l.es l.count l.initial.buf l.buf l.at l.i
+invariant-loop-i l = Laying l.q.kind l.q.elements l.q.count l.initial.buf l.buf l.at l.i

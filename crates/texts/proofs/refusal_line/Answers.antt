@@ -7,5 +7,4 @@ use Rattle.texts.proofs.refusal_line.Goals as goal
 
 pub returns : goal.returns
 unfolding refusal_line
-returns c = let w = whole c.new-line.ensures (both (both (short (rw c.number.ensures at c.field.ensures)) (short c.field-2.ensures)) (one c.put.ensures)) (omega arith) in
-    record { text = w.0; within = w.1 }
+returns c = (whole c.new-line.ensures (both (both (short (rw c.number.ensures at c.field.ensures)) (short c.field-2.ensures)) (one c.put.ensures)) (omega arith)).0

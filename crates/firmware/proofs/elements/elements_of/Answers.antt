@@ -3,7 +3,8 @@
 use Rattle.std.proofs.Common.{◌≡◌, length, rules, arith}
 use Rattle.laws.proofs.Arrays.{length_mapped}
 use Rattle.firmware.specs.Numbers.{element_from}
-use Rattle.firmware.proofs.Laws.{past_given, past_elements, mapped_at}
+use Rattle.requests.specs.Elements.{past_elements}
+use Rattle.firmware.proofs.Laws.{past_given, mapped_at}
 use Rattle.firmware.proofs.elements.elements_of.Goals as goal
 
 pub returns : goal.returns

@@ -4,7 +4,8 @@
 use Rattle.std.proofs.Common.{arith}
 use Rattle.report_calls.proofs.FillLaws.{filling_done, filling_full, filling_within, filling_next}
 use Rattle.report_calls.proofs.EventLaws.{left_none}
-use Rattle.report_calls.proofs.ReportLaws.{past_diagnostics, next_report, no_report, report-octets}
+use Rattle.requesters.proofs.DiagnosticLaws.{past_diagnostics}
+use Rattle.report_calls.proofs.ReportLaws.{next_report, no_report, report-octets}
 use Rattle.report_calls.proofs.diagnostic_reports.fill_diagnostics.Goals as goal
 
 pub returns-in_default : goal.returns-in_default

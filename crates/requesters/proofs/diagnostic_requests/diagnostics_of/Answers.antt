@@ -6,7 +6,7 @@ use Rattle.requests.specs.Elements.{past_elements}
 use Rattle.requesters.proofs.diagnostic_requests.diagnostics_of.Goals as goal
 
 pub loop-i-preserved : goal.loop-i-preserved
-loop-i-preserved c = fill_back c.loop-i.invariant c.loop-i-test.true past_elements c.diagnostic_of.result c.diagnostic_of.ensures
+loop-i-preserved c = fill_back c.loop-i.invariant c.loop-i-test.true past_elements c.from.result c.from.ensures
 
 pub returns : goal.returns
 unfolding diagnostics_of

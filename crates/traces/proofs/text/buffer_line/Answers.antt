@@ -10,5 +10,4 @@ pub returns : goal.returns
 unfolding buffer_line
 returns c = let few : length c.args.buf.now.items ≤ longest_length = rw (← c.as_slice.ensures.value) c.as_slice.ensures.fits in
     let p = both (both (one c.put.ensures) (rw c.as_slice.ensures.value at c.hexes.ensures)) (one c.put-2.ensures) in
-    let w = whole c.new-line.ensures (at_most buffer_line_most (omega (arith, few)) p) (omega arith) in
-    record { text = w.0; within = w.1 }
+    (whole c.new-line.ensures (at_most buffer_line_most (omega (arith, few)) p) (omega arith)).0
