@@ -1,5 +1,6 @@
 // The records of a trace as calls: what each gives, the station after it, and the station after a whole
-// trace. Nothing is printed here. The format of the records is that of traces.
+// trace. Nothing is printed here. The format of the records is that of traces. A call is of a station and of the
+// record at a position of the trace, which stay three parameters: each function hands on those that it needs.
 #![tactic(auto)]
 
 ghost use Rattle.std.specs.Prelude.{◌≡◌, []};

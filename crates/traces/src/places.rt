@@ -89,7 +89,8 @@ fn list_end(s: &[u8], at: usize) -> Option<usize>
     behind(s, from, 7 * size(s, at))
 }
 
-// The fields of a report call.
+// The fields of a report call. Its kind is tested as an octet, here and in the writer's call: a number of none is
+// refused, where `Kind::from` would take it for a diagnostic's.
 fn report_call_end(s: &[u8], at: usize) -> Option<usize>
     ensures { result ≡ found (report_call_end s.now at) }
 {
