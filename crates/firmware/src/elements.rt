@@ -1,10 +1,10 @@
 // The elements of requests and reports: what C hands in, and what it is given.
-ghost use Rattle.std.specs.Prelude.{◌≡◌, map};
+ghost use Rattle.std.specs.Prelude.{◌≡◌, map, take};
 ghost use Rattle.firmware.specs.Numbers.{condition_of, element_from, numbered_element};
 
 use crate::{Condition, ReportElement, RequestElement};
 use report_reader::Element;
-use requests::ELEMENT_CAPACITY;
+use requests::{ELEMENT_CAPACITY, blank_elements};
 
 impl From<Condition> for subelements::Condition {
     ghost from_gives = { λ c condition. condition ≡ condition_of c };
@@ -34,13 +34,18 @@ impl From<RequestElement> for requests::Element {
     }
 }
 
-// The elements of a request for the writer.
+// The first count elements of a request for the writer, which looks at no other; those are blank.
 pub(crate) fn elements_of(
-    es: [RequestElement; ELEMENT_CAPACITY],
+    es: &[RequestElement; ELEMENT_CAPACITY],
+    count: usize,
 ) -> [requests::Element; ELEMENT_CAPACITY]
-    ensures { result ≡ map element_from es }
+    ensures { take count result ≡ map element_from (take count es.now) }
 {
-    es.map(requests::Element::from)
+    let mut elements = blank_elements();
+    for i in 0..count.min(ELEMENT_CAPACITY) {
+        elements[i] = requests::Element::from(es[i]);
+    }
+    elements
 }
 
 impl From<Element> for ReportElement {

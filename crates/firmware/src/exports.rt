@@ -58,15 +58,16 @@ pub extern "C" fn dultxibe_tick(g: &mut Station, reading: u32) -> Reply
 
 // Logs a transition, which the reading ends.
 #[unsafe(no_mangle)]
+#[tactic(auto, unfolding(station::specs::Views::view_outcome))]
 pub extern "C" fn dultxibe_log_transition(g: &mut Station, reading: u32, t: Transition) -> Reply
     ensures { left_with g.new result [] ≡ numbered (step elapsed_clock standard (view g.old) (logging reading (transition t))) }
 {
-    let after = (*g).log_transition(Milliseconds(reading), t);
-    left(g, after)
+    Reply::from(g.transition_logged(Milliseconds(reading), t))
 }
 
 // Logs an RSNA event, with its RSN element.
 #[unsafe(no_mangle)]
+#[tactic(auto, unfolding(station::specs::Views::view_outcome))]
 pub extern "C" fn dultxibe_log_rsna(
     g: &mut Station,
     reading: u32,
@@ -75,17 +76,16 @@ pub extern "C" fn dultxibe_log_rsna(
 ) -> Reply
     ensures { left_with g.new result [] ≡ numbered (step elapsed_clock standard (view g.old) (logging reading (rsna e rsn.now))) }
 {
-    let after = (*g).log_rsna(Milliseconds(reading), e, rsn);
-    left(g, after)
+    Reply::from(g.rsna_logged(Milliseconds(reading), e, rsn))
 }
 
 // Logs a peer-to-peer link event.
 #[unsafe(no_mangle)]
+#[tactic(auto, unfolding(station::specs::Views::view_outcome))]
 pub extern "C" fn dultxibe_log_peer_link(g: &mut Station, reading: u32, e: PeerLink) -> Reply
     ensures { left_with g.new result [] ≡ numbered (step elapsed_clock standard (view g.old) (logging reading (peer_link e))) }
 {
-    let after = (*g).log_peer_link(Milliseconds(reading), e);
-    left(g, after)
+    Reply::from(g.peer_link_logged(Milliseconds(reading), e))
 }
 
 // A frame from a source to a destination.

@@ -20,7 +20,7 @@ use request_writer::write_request;
 pub extern "C" fn dultxibe_write_request(q: Request, buf: &mut [u8]) -> Reply
     ensures { write result buf.new ≡ numbered_write (write_request (kind_of q.kind) q.dialog (map element_from q.elements) q.count buf.old) }
 {
-    let elements = elements_of(q.elements);
+    let elements = elements_of(&q.elements, q.count);
     let request = requests::Request {
         kind: Kind::from(q.kind),
         dialog: q.dialog,

@@ -8,6 +8,7 @@ use Rattle.events.specs.Log.{logged}
 use Rattle.model.specs.Clocks.{Timer}
 use Rattle.model.specs.Model.{Station, Result}
 use Rattle.requesters.specs.Views.{view_requester, view_identity, view_answer}
+use Rattle.requesters.specs.declared.Answer.{Answer}
 use Rattle.station.specs.declared.Timer.{Timer as CodeTimer}
 use Rattle.station.specs.declared.Station.{Station as CodeStation}
 use Rattle.station.specs.declared.Outcome.{Outcome}
@@ -29,6 +30,10 @@ view g =
 -- what a call gives, with the lent buffer afterwards ([] where none was lent)
 unfoldable pub view_outcome : Outcome → List ℕ → Result
 view_outcome o buffer = record { station = view o.station; answer = view_answer o.answer; buffer = buffer }
+
+-- a station as a call left it where it stands, and the answer
+abbrev pub left_outcome : CodeStation → Answer → Outcome
+left_outcome g a = record { station = g; answer = a }
 
 -- a station with what a frame or a report call changes of it, and the answer
 abbrev pub changed_outcome : CodeStation → Changed → Outcome

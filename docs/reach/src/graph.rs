@@ -123,5 +123,6 @@ mod tests {
         };
         assert!(graph("pub use lib.Seq.{w, x}").is_ok());
         assert!(graph("use lib.Seq.{x}").is_err());
+        assert!(graph("pub use Rattle.c.specs.C.{x}").is_err());
     }
 }

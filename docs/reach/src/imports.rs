@@ -40,9 +40,11 @@ pub fn logic(text: &str) -> Result<Vec<(Origin<'_>, Vec<Import<'_>>)>, String> {
     statements.filter(|text| !is_proof_module(text)).map(statement).collect()
 }
 
-/// Does a text pass on a name, `pub use LIBRARY.MODULE.{name}`?
+/// Does a text pass on a name of another library, `pub use LIBRARY.MODULE.{name}`?
 pub fn passes_on(text: &str, name: &str) -> bool {
-    let names = text.lines().filter_map(|line| line.strip_prefix("pub use ")?.split_once(".{"));
+    let paths = text.lines().filter_map(|line| line.strip_prefix("pub use "));
+    let others = paths.filter(|path| !path.starts_with("Rattle.") || path.starts_with(LIBRARY));
+    let names = others.filter_map(|path| path.split_once(".{"));
     names.flat_map(|(_, names)| names.split(['}', ','])).any(|passed| passed.trim() == name)
 }
 

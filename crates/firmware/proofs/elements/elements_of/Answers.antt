@@ -1,15 +1,19 @@
 -- `firmware::elements::elements_of` meets its contract.
 -- Assumes nothing.
-use Rattle.std.proofs.Common.{◌≡◌, length, rules, arith}
-use Rattle.laws.proofs.Arrays.{length_mapped}
+use Rattle.std.proofs.Common.{◌≡◌, ◌∙◌, length, length-set, arith, rules}
+use Rattle.laws.proofs.Arrays.{column_next}
+use Rattle.requests.specs.Elements.{element_capacity, blank_elements}
 use Rattle.firmware.specs.Numbers.{element_from}
-use Rattle.requests.specs.Elements.{past_elements}
-use Rattle.firmware.proofs.Laws.{past_given, mapped_at}
+use Rattle.firmware.proofs.Laws.{past_given, first_made}
 use Rattle.firmware.proofs.elements.elements_of.Goals as goal
 
+pub loop-i-preserved : goal.loop-i-preserved
+loop-i-preserved c = let l = c.loop-i in
+    let on = c.loop-i-test.true in
+    let eight : length c.args.es.now ≡ element_capacity = search (rules, c.told-es) in
+    (length-set l.elements l.i _ ∙ l.invariant.0, rw c.from.ensures (column_next element_from c.args.es.now blank_elements l.elements l.i past_given (omega (arith, c.min-i-end.ensures)) (omega (arith, c.min-i-end.ensures)) l.invariant.1))
+
 pub returns : goal.returns
-returns c =
-    let m = c.map.ensures.items in
-    let eight : length c.args.es ≡ 8 = search (rules, length_mapped) in
-    mapped_at element_from past_given past_elements c.args.es c.map.result (omega (arith, m.long))
-    (λ i h. let k = m.at i past_given past_elements (omega arith) in search (rules, k))
+returns c = let l = c.loop-i in
+    let eight : length c.args.es.now ≡ element_capacity = search (rules, c.told-es) in
+    first_made element_from c.args.es.now l.elements _ c.args.count l.i element_capacity eight l.invariant.0 (omega (arith, c.min-i-end.ensures, c.loop-i-test.false, c.loop-i.auto.i-end)) l.invariant.1
