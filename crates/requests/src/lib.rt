@@ -200,7 +200,11 @@ fn read_elements(s: &[u8], kind: Kind) -> Result<Request, Refusal>
         if bad_token(kind, &elements[..n], octet(s, at + 2)) {
             return Err(Cause::BadElementToken.at(at));
         }
-        let subs = subelements_of(s, kind, at, end)?;
+        // A match and no `?`, so that the place of a refusal is the walk's own by that one's clause.
+        let subs = match subelements_of(s, kind, at, end) {
+            Ok(subs) => subs,
+            Err(refusal) => return Err(refusal),
+        };
         elements[n] = element_of(&s[at..], kind, subs);
         n += 1;
     }

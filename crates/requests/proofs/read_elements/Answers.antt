@@ -1,7 +1,6 @@
 -- `requests::read_elements` meets its contract. The invariant, `Walking`: what is left of the walk gives what the whole walk gives.
 -- Assumes nothing.
 use Rattle.std.proofs.Common.{refl, ◌∙◌, arith}
-use Rattle.std.proofs.lemmas.Result.{err_from_is_err_and}
 use Rattle.octets.proofs.ElementLaws.{at_place, no_place}
 use Rattle.octets.proofs.RefusalLaws.{some_number}
 use Rattle.subelements.specs.Subelements.{accepted_walk}
@@ -33,15 +32,14 @@ pub subelements_of-requires : goal.subelements_of-requires
 subelements_of-requires c = let n = c.size.ensures in
     omega (arith, within c.loop-next.invariant 0 c.loop-next-test.true (at_place c.in-Some.ensures).is (at_place c.in-Some.ensures).some n.0 n.1)
 
-pub returns-in_err-subs : goal.returns-in_err-subs
-returns-in_err-subs c = let p = err_from_is_err_and c.from_residual.result c.from_residual.ensures.1 in
-    rw (p.1, p.2) (refused-subelements c.loop-next.invariant _ c.loop-next-test.true (at_place c.in-Some.ensures).is (at_place c.in-Some.ensures).some c.octet.ensures c.request_id.ensures c.if-octet-request_id.false c.if-n-ge-ELEMENT_CAPACITY.false c.size.ensures.0 c.least_body.ensures c.if-size-least_body.false c.octet-in-loop-next.ensures c.bad_token.ensures c.if-bad_token.false c.in_err-subs.ensures.walked (some_number _) refl)
+pub returns-in-Err : goal.returns-in-Err
+returns-in-Err c = refused-subelements c.loop-next.invariant _ c.loop-next-test.true (at_place c.in-Some.ensures).is (at_place c.in-Some.ensures).some c.octet.ensures c.request_id.ensures c.if-octet-request_id.false c.if-n-ge-ELEMENT_CAPACITY.false c.size.ensures.0 c.least_body.ensures c.if-size-least_body.false c.octet-in-loop-next.ensures c.bad_token.ensures c.if-bad_token.false (rw c.in-Err.is at c.subelements_of.ensures.walked) (some_number _) refl
 
 pub loop-next-smaller : goal.loop-next-smaller
 loop-next-smaller c = moves c.loop-next.invariant 0 c.loop-next-test.true (at_place c.in-Some.ensures).is (at_place c.in-Some.ensures).some
 
 pub loop-next-preserved : goal.loop-next-preserved
-loop-next-preserved c = added c.loop-next.invariant 0 c.loop-next-test.true (at_place c.in-Some.ensures).is (at_place c.in-Some.ensures).some c.octet.ensures c.request_id.ensures c.if-octet-request_id.false c.if-n-ge-ELEMENT_CAPACITY.false c.size.ensures.0 c.least_body.ensures c.if-size-least_body.false c.octet-in-loop-next.ensures c.bad_token.ensures c.if-bad_token.false c.in_ok-subs.ensures.walked refl (c.element_of.ensures ∙ element_from _ _ _ (accepted_walk c.in_ok-subs.subs))
+loop-next-preserved c = added c.loop-next.invariant 0 c.loop-next-test.true (at_place c.in-Some.ensures).is (at_place c.in-Some.ensures).some c.octet.ensures c.request_id.ensures c.if-octet-request_id.false c.if-n-ge-ELEMENT_CAPACITY.false c.size.ensures.0 c.least_body.ensures c.if-size-least_body.false c.octet-in-loop-next.ensures c.bad_token.ensures c.if-bad_token.false (rw c.in-Ok.is at c.subelements_of.ensures.walked) refl (c.element_of.ensures ∙ element_from _ _ _ (accepted_walk c.in-Ok.subs))
 
 pub returns-then-lacks_element : goal.returns-then-lacks_element
 returns-then-lacks_element c = lacks c.loop-next.invariant _ c.loop-next-test.false c.lacks_element.ensures c.if-lacks_element.true (rw c.at-then-lacks_element.ensures)
