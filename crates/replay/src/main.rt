@@ -10,15 +10,16 @@ ghost use Rattle.model.specs.Stations.{step};
 ghost use Rattle.station.specs.Views.{view};
 ghost use Rattle.replays.specs.Replay.{report_at, replayed, replay_trace};
 
-use replays::{Caller, LONGEST, Replayed, explain_at, list_at, outcome_at, replay_by, report_at};
+use replays::{Caller, LONGEST, Replayed, explain_at, outcome_at, put_list, replay_by, report_at};
 use request_writer::write_request;
 use requesters::Answer;
 use requests::Request;
 use station::{Outcome, Station};
-use stdio::{print, read_full};
+use stdio::{print, read_full, write_all};
+use texts::Text;
 use traces::{
-    RecordKind, answer_line, buffer_line, elements_at, explanation_line, lent_buffer, record_kind,
-    trace_refusal_line, writer_call_at,
+    RecordKind, answer_line, elements_at, explanation_line, lent_buffer, put_buffer_line,
+    record_kind, trace_refusal_line, writer_call_at,
 };
 
 // One octet more than the longest trace has, so that a longer input is seen to be longer.
@@ -32,13 +33,20 @@ fn after(rt: &HostRuntime, outcome: Outcome) -> Station
     outcome.station
 }
 
+// A lent buffer. The text is lent too, here and in read.
+fn print_buffer(rt: &HostRuntime, buf: &[u8]) {
+    let mut line = Text::new();
+    put_buffer_line(&mut line, buf);
+    write_all(rt, line.octets());
+}
+
 // A report call, and its lent buffer.
 fn report(rt: &HostRuntime, g: Station, s: &[u8], at: usize) -> Station
     ensures { view result ≡ (step elapsed_clock standard (view g) (report_at s.now at)).station }
 {
     let r = report_at(g, s, at);
     let station = after(rt, r.outcome);
-    print(rt, buffer_line(&r.buf));
+    print_buffer(rt, &r.buf[..r.length]);
     station
 }
 
@@ -56,12 +64,14 @@ fn write(rt: &HostRuntime, s: &[u8], at: usize) {
         let written = write_request(request, buf.as_mut_slice());
         let answer = written.map_or_else(Answer::Refused, Answer::Length);
         print(rt, answer_line(answer));
-        print(rt, buffer_line(&buf));
+        print_buffer(rt, buf.as_slice());
     }
 }
 
 fn read(rt: &HostRuntime, s: &[u8], at: usize) {
-    print(rt, list_at(s, at));
+    let mut text = Text::new();
+    put_list(&mut text, s, at);
+    write_all(rt, text.octets());
 }
 
 // What each call gives is printed.

@@ -3,36 +3,37 @@
 // record at a position of the trace, which stay three parameters: each function hands on those that it needs.
 #![tactic(auto)]
 
-ghost use Rattle.std.specs.Prelude.{◌≡◌, []};
+ghost use Rattle.std.specs.Prelude.{◌≡◌, ◌≤◌, [], take};
 ghost use Rattle.model.specs.Clocks.{elapsed_clock};
 ghost use Rattle.model.specs.Model.{standard, report as model_report};
 ghost use Rattle.model.specs.Stations.{step};
 ghost use Rattle.explanations.specs.Explanations.{explanation_read};
-ghost use Rattle.report_listing.specs.Listing.{frame_listing};
+ghost use Rattle.texts.specs.Text.{Puts};
+ghost use Rattle.report_listing.specs.Listing.{frame_listing, report_listing_most};
 ghost use Rattle.station.specs.Views.{view, view_outcome};
 ghost use Rattle.replays.specs.Replay.{spanned, setup_at, clock_at, log_transition_at, frame_at, report_at, roam_at, change_at, log_rsna_at, log_peer_link_at, station_after, explained_at, listed_at, replayed, replay_trace, explained_line, explain_line};
 
-use arrayvec::ArrayVec;
 use explanations::Explanation;
 use octets::Refusal;
-use report_listing::{LISTING, list_report};
+use report_listing::{LISTING, put_listing};
 use requesters::Answer;
 use station::{Outcome, Station};
 use texts::Text;
 use traces::{
-    BUFFER, LINE, RecordKind, Span, explain_call_at, explanation_line, frame_call_at, lent_buffer,
-    move_at, peer_link_at, reader_call_at, reading_at, record_end, record_kind, report_call_at,
+    BUFFER, LINE, RecordKind, Span, explain_call_at, explanation_line, frame_call_at, move_at,
+    peer_link_at, reader_call_at, reading_at, record_end, record_kind, report_call_at,
     requesters_at, rsna_call_at, setup_at, trace_refusal_line, transition_at,
 };
 
 // A trace has at most so many octets.
 pub const LONGEST: usize = 262144;
 
-// What a report call gives, and its lent buffer.
-#[derive(Drop)]
+// What a report call gives, and its lent buffer: the first length octets of buf.
+#[derive(Clone, Copy)]
 pub struct Reported {
     pub outcome: Outcome,
-    pub buf: ArrayVec<u8, BUFFER>,
+    pub buf: [u8; BUFFER],
+    pub length: usize,
 }
 
 // How far the records of a trace reach, and the station after them. A place and no Result: the caller, which knows
@@ -83,12 +84,18 @@ fn take_frame(g: Station, s: &[u8], at: usize) -> Outcome
 
 // The report call of the record at a position.
 pub fn report_at(g: Station, s: &[u8], at: usize) -> Reported
-    ensures { view result.outcome.station ≡ (step elapsed_clock standard (view g) (report_at s.now at)).station }
+    ensures outcome { view_outcome result.outcome (take result.length result.buf) ≡ step elapsed_clock standard (view g) (report_at s.now at) }
+    ensures within { result.length ≤ BUFFER }
 {
     let c = report_call_at(s, at);
-    let mut buf = lent_buffer(c.fill, c.length);
-    let outcome = g.report(c.reading, c.requester, c.kind, buf.as_mut_slice());
-    Reported { outcome, buf }
+    let length = (c.length as usize).min(BUFFER);
+    let mut buf = [c.fill; BUFFER];
+    let outcome = g.report(c.reading, c.requester, c.kind, &mut buf[..length]);
+    Reported {
+        outcome,
+        buf,
+        length,
+    }
 }
 
 // Twins but for the station's method: over a closure, each call would say its contract again, to spare one line.
@@ -158,12 +165,21 @@ pub fn explain_at(g: Station, s: &[u8], at: usize) -> Result<Explanation, Refusa
     g.explain(part(s, c.element), c.count as usize, c.position as usize)
 }
 
-// The text of the report frame of the record at a position.
+// The listing of the report frame of the record at a position, into a text that is lent.
+pub fn put_list(text: &mut Text<LISTING>, s: &[u8], at: usize)
+    ensures { Puts LISTING report_listing_most (listed_at s.now at) text.old text.new }
+{
+    let c = reader_call_at(s, at);
+    put_listing(text, c.form, c.destination, part(s, c.frame))
+}
+
+// The same, as a text of its own.
 pub fn list_at(s: &[u8], at: usize) -> Text<LISTING>
     ensures { result ≡ listed_at s.now at }
 {
-    let c = reader_call_at(s, at);
-    list_report(c.form, c.destination, part(s, c.frame))
+    let mut text = Text::new();
+    put_list(&mut text, s, at);
+    text
 }
 
 // What a replay does at each record: its call, and what is shown of that.

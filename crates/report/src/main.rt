@@ -2,12 +2,17 @@
 #![tactic(auto)]
 
 use octets::numbers::LONGEST_FRAME;
-use report_listing::list_input;
-use stdio::print_for_input;
+use report_listing::put_input;
+use stdio::{read_full, write_all};
+use texts::Text;
 
 // The form, the destination, the longest frame, and one octet more, so that a longer input is seen to be longer.
 const INPUT: usize = 1 + 6 + LONGEST_FRAME + 1;
 
 fn main(rt: HostRuntime) {
-    print_for_input(&rt, [0u8; INPUT], list_input);
+    let mut input = [0u8; INPUT];
+    let n = read_full(&rt, &mut input);
+    let mut text = Text::new();
+    put_input(&mut text, &input[..n]);
+    write_all(&rt, text.octets());
 }

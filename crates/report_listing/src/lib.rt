@@ -267,7 +267,9 @@ fn put_elements(text: &mut Text<LISTING>, form: u8, s: &[u8], kind: Kind)
     }
 }
 
-fn put_listing(text: &mut Text<LISTING>, form: u8, destination: [u8; 6], s: &[u8])
+// Reads a report frame of a form for a destination and lists it, into a text that is lent: one of so many octets costs
+// a copy each time that it is handed on.
+pub fn put_listing(text: &mut Text<LISTING>, form: u8, destination: [u8; 6], s: &[u8])
     ensures { Puts LISTING report_listing_most (frame_listing form destination s.now) text.old text.new }
 {
     match read_report(form, destination, s) {
@@ -280,7 +282,7 @@ fn put_listing(text: &mut Text<LISTING>, form: u8, destination: [u8; 6], s: &[u8
     }
 }
 
-// Reads a report frame of a form for a destination and lists it.
+// The same, as a text of its own.
 pub fn list_report(form: u8, destination: [u8; 6], s: &[u8]) -> Text<LISTING>
     ensures { result ≡ frame_listing form destination s.now }
 {
@@ -289,7 +291,8 @@ pub fn list_report(form: u8, destination: [u8; 6], s: &[u8]) -> Text<LISTING>
     text
 }
 
-fn put_input(text: &mut Text<LISTING>, input: &[u8])
+// Lists the input of the program `report`: the form, six octets of destination, then the frame.
+pub fn put_input(text: &mut Text<LISTING>, input: &[u8])
     ensures { Puts LISTING report_listing_most (input_listing input.now) text.old text.new }
 {
     let form = octet(input, 0);
@@ -302,7 +305,7 @@ fn put_input(text: &mut Text<LISTING>, input: &[u8])
     put_listing(text, form, address_at(input, 1), &input[7..]);
 }
 
-// Lists the input of the program `report`: the form, six octets of destination, then the frame.
+// The same, as a text of its own.
 pub fn list_input(input: &[u8]) -> Text<LISTING>
     ensures { result ≡ input_listing input.now }
 {

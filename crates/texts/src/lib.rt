@@ -3,7 +3,7 @@
 // answers Ok, and no contract says when it does, so that a text that has room could not be promised.
 #![tactic(auto)]
 
-ghost use Rattle.std.specs.Prelude.{◌≡◌, ℕ, ◌&&◌, [], ◌++◌, ◌+◌, ◌*◌, ◌^◌, ◌<◌, ◌≤◌, eqb, leb, length, drop};
+ghost use Rattle.std.specs.Prelude.{◌≡◌, ℕ, ◌&&◌, [], ◌∷◌, ◌++◌, ◌+◌, ◌*◌, ◌^◌, ◌<◌, ◌≤◌, eqb, leb, length, drop};
 ghost use Rattle.std.proofs.Common.{rules};
 ghost use Rattle.octets.specs.Refusals.{refusal_of};
 ghost use Rattle.texts.specs.Text.{digit as text_digit, decimal, named, hexed, hexes, refusal_line, refusal_most, frame_line, element_head, Puts, PutsWhole, put_whole};
@@ -146,6 +146,13 @@ impl<const N: usize> Text<N> {
         let _ = self.octets.try_extend_from_slice(o);
     }
 
+    // One octet.
+    fn push(&mut self, x: u8)
+        ensures { self.new ≡ put_whole N (x ∷ []) self.old }
+    {
+        let _ = self.octets.try_push(x);
+    }
+
     // How many more octets fit.
     fn room(&self) -> usize
         ensures { result + length self.now ≡ N }
@@ -184,11 +191,18 @@ impl<const N: usize> Text<N> {
         self.number(name, n.wide(), 1);
     }
 
-    // An octet as two hexadecimal digits, behind a name.
+    // An octet as two hexadecimal digits, behind a name. Not by put_two, which would read them from an array in memory:
+    // that takes several times as long.
     pub fn hex(&mut self, name: &[u8], x: u8)
         ensures { PutsWhole N (length name.now + 2) (hexed name.now x) self.old self.new }
     {
-        self.put_two(name, &[digit(x / 16), digit(x % 16)]);
+        if self.room().saturating_sub(name.len()) < 2 {
+            return;
+        }
+        let [high, low] = [digit(x / 16), digit(x % 16)];
+        self.put(name);
+        self.push(high);
+        self.push(low);
     }
 
     // Octets in hexadecimal, each behind a name.

@@ -16,5 +16,5 @@ pub use elements::{Elements, elements_at};
 pub use places::{RecordKind, record_end, record_kind};
 pub use text::{
     BUFFER, BUFFER_LINE, LINE, answer_line, buffer_line, explanation_line, lent_buffer,
-    trace_refusal_line,
+    put_buffer_line, trace_refusal_line,
 };

@@ -1,5 +1,5 @@
 // The lines of answers, explanations and lent buffers, each in a text that has room for every one of them.
-ghost use Rattle.std.specs.Prelude.{◌≡◌, ◌+◌, length, take, replicate};
+ghost use Rattle.std.specs.Prelude.{◌≡◌, ◌+◌, ◌*◌, length, take, replicate};
 ghost use Rattle.explanations.specs.Explanations.{reason_given, explanation_read};
 ghost use Rattle.texts.specs.Text.{Puts};
 ghost use Rattle.traces.specs.Lines.{number_line, answer_line, explanation_line, trace_refusal_line, buffer_line};
@@ -85,13 +85,20 @@ pub fn lent_buffer(fill: u8, length: u16) -> ArrayVec<u8, BUFFER>
     buf
 }
 
-// The line of a buffer.
+// The line of a buffer, into a text that is lent: one of so many octets costs a copy each time that it is handed on.
+pub fn put_buffer_line(line: &mut Text<BUFFER_LINE>, buf: &[u8])
+    ensures { Puts BUFFER_LINE (7 + 2 * length buf.now + 1) (buffer_line buf.now) line.old line.new }
+{
+    line.put(b"buffer ");
+    line.hexes(b"", buf);
+    line.put(b"\n");
+}
+
+// The same, as a text of its own.
 pub fn buffer_line(buf: &ArrayVec<u8, BUFFER>) -> Text<BUFFER_LINE>
     ensures { result ≡ buffer_line buf.now.items }
 {
     let mut line = Text::new();
-    line.put(b"buffer ");
-    line.hexes(b"", buf.as_slice());
-    line.put(b"\n");
+    put_buffer_line(&mut line, buf.as_slice());
     line
 }

@@ -26,7 +26,7 @@ returns-in-Some-TakeFrame c = rw (← c.in-Some-TakeFrame.ensures, c.in-Some-Tak
 
 pub returns-in-Some-Report : goal.returns-in-Some-Report
 unfolding station_after when◌then◌else◌
-returns-in-Some-Report c = rw (← c.in-Some-Report.ensures, c.in-Some-Report.field-0-is) c.report_at.ensures
+returns-in-Some-Report c = rw (← c.in-Some-Report.ensures, c.in-Some-Report.field-0-is) (leaves _ _ _ _ refl c.report_at.ensures.outcome)
 
 pub returns-in-Some-Roam : goal.returns-in-Some-Roam
 unfolding station_after when◌then◌else◌
