@@ -8,7 +8,6 @@ use stdio::print_for_input;
 // One octet more than the longest frame has, so that a longer input is seen to be longer.
 const INPUT: usize = LONGEST_FRAME + 1;
 
-// Beside `report`: each has its own length and its own text of an input.
 fn main(rt: HostRuntime) {
     print_for_input(&rt, [0u8; INPUT], list_frame);
 }

@@ -9,6 +9,7 @@ use texts::Text;
 // The form, the destination, the longest frame, and one octet more, so that a longer input is seen to be longer.
 const INPUT: usize = 1 + 6 + LONGEST_FRAME + 1;
 
+// Not by `print_for_input`: the text is lent, and not handed on.
 fn main(rt: HostRuntime) {
     let mut input = [0u8; INPUT];
     let n = read_full(&rt, &mut input);
