@@ -10,6 +10,7 @@ ghost use Rattle.model.specs.Stations.{step};
 ghost use Rattle.station.specs.Views.{view};
 ghost use Rattle.replays.specs.Replay.{report_at, replayed, replay_trace};
 
+use arrayvec::ArrayVec;
 use replays::{Caller, LONGEST, Replayed, explain_at, outcome_at, put_list, replay_by, report_at};
 use request_writer::write_request;
 use requesters::Answer;
@@ -18,7 +19,7 @@ use station::{Outcome, Station};
 use stdio::{print, read_full, write_all};
 use texts::Text;
 use traces::{
-    RecordKind, answer_line, elements_at, explanation_line, lent_buffer, put_buffer_line,
+    RecordKind, answer_line, elements_at, explanation_line, fill_buffer, put_buffer_line,
     record_kind, trace_refusal_line, writer_call_at,
 };
 
@@ -52,7 +53,8 @@ fn report(rt: &HostRuntime, g: Station, s: &[u8], at: usize) -> Station
 
 fn write(rt: &HostRuntime, s: &[u8], at: usize) {
     let c = writer_call_at(s, at);
-    let mut buf = lent_buffer(c.fill, c.length);
+    let mut buf = ArrayVec::new();
+    fill_buffer(&mut buf, c.fill, c.length);
     if let Some(e) = elements_at(s, c.kind, c.count, c.elements) {
         let elements = e.elements;
         let request = Request {

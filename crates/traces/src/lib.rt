@@ -15,6 +15,6 @@ pub use calls::{
 pub use elements::{Elements, elements_at};
 pub use places::{RecordKind, record_end, record_kind};
 pub use text::{
-    BUFFER, BUFFER_LINE, LINE, answer_line, buffer_line, explanation_line, lent_buffer,
-    put_buffer_line, trace_refusal_line,
+    BUFFER, BUFFER_LINE, LINE, answer_line, buffer_line, explanation_line, fill_buffer,
+    lent_buffer, put_buffer_line, trace_refusal_line,
 };

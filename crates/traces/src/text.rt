@@ -76,12 +76,21 @@ pub fn trace_refusal_line(place: usize) -> Text<LINE>
     line
 }
 
-// A lent buffer: as many octets of one value as a record says, and no more than a buffer has.
+// Makes a buffer what a record says: so many octets of one value, and no more than a buffer has.
+pub fn fill_buffer(buf: &mut ArrayVec<u8, BUFFER>, fill: u8, length: u16)
+    ensures { buf.new.items ≡ take length (replicate BUFFER fill) }
+{
+    let n = (length as usize).min(BUFFER);
+    buf.clear();
+    let _ = buf.try_extend_from_slice(&[fill; BUFFER][..n]);
+}
+
+// The same, as a buffer of its own.
 pub fn lent_buffer(fill: u8, length: u16) -> ArrayVec<u8, BUFFER>
     ensures { result.items ≡ take length (replicate BUFFER fill) }
 {
-    let mut buf = ArrayVec::from([fill; BUFFER]);
-    buf.truncate(length as usize);
+    let mut buf = ArrayVec::new();
+    fill_buffer(&mut buf, fill, length);
     buf
 }
 
